@@ -1,0 +1,6 @@
+pub mod Texts
+pub mod Ids
+pub mod Number
+pub mod Parents
+pub mod Slips
+pub mod Kinds

@@ -1,0 +1,23 @@
+//! The slip of a block.
+
+ghost use Rattle.std.specs.Prelude.{◌≡◌, IfOk};
+ghost use Rattle.block_record.specs.Slips.{slip};
+
+use crate::blocks::{Block, Slip};
+use std::alloc::{AllocError, Global};
+
+/// The slip of the block. It hashes nothing, since the block has its payload's digest.
+pub fn slip_of(alloc: Global, block: &Block) -> Result<Slip, AllocError>
+    ensures { IfOk result (λ s. s ≡ slip block.now) }
+{
+    Ok(Slip {
+        num: block.num,
+        id: block.id.clone()?,
+        parent_num: block.parent_num,
+        parent_id: block.parent_id.clone()?,
+        lib_num: block.lib_num,
+        time: block.time,
+        length: block.payload.as_bytes().len() as u32,
+        digest: block.digest,
+    })
+}

@@ -1,0 +1,21 @@
+//! The records of the plant: ids, blocks and their slips.
+#![tactic(auto)]
+
+mod blocks;
+mod bytes;
+mod digests;
+mod ids;
+mod numbers;
+mod readers;
+mod types;
+
+pub use blocks::{Block, BlockRef, Kind, PAYLOAD_BYTES_MAX, Slip, Version};
+pub use bytes::Bytes;
+pub use digests::slip_of;
+pub use ids::{Id, is_id};
+pub use numbers::read_number;
+pub use readers::ReaderName;
+pub use types::{TypeName, is_type_name};
+
+#[cfg(test)]
+mod tests;

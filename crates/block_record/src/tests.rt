@@ -1,0 +1,125 @@
+use crate::{Block, Bytes, Id, Kind, ReaderName, TypeName, Version, is_id, read_number, slip_of};
+use sha2::{Digest, Sha256};
+use std::test::Fail;
+
+const NUMBERS: [(&[u8], Option<u64>); 12] = [
+    (b"0", Some(0)),
+    (b"7", Some(7)),
+    (b"18571000", Some(18_571_000)),
+    (b"18446744073709551615", Some(u64::MAX)),
+    (b"18446744073709551616", None),
+    (b"99999999999999999999999", None),
+    (b"", None),
+    (b"007", None),
+    (b"00", None),
+    (b"+7", None),
+    (b"-7", None),
+    (b"7 ", None),
+];
+
+#[test]
+fn numbers_have_one_spelling(rt: HostRuntime) {
+    for (text, number) in NUMBERS {
+        assert!(rt; read_number(text) == number, "at {text:?}");
+    }
+}
+
+const IDS: [(&[u8], bool); 8] = [
+    (b"a1", true),
+    (b"_", true),
+    (b"Z9_x", true),
+    (&[b'f'; 128], true),
+    (&[b'f'; 129], false),
+    (b"", false),
+    (b"a-1", false),
+    (b"a 1", false),
+];
+
+#[test]
+fn ids_are_letters_digits_and_underscores(rt: HostRuntime) -> Result<(), Fail> {
+    for (text, valid) in IDS {
+        assert!(rt; is_id(text) == valid, "at {text:?}");
+        let id = Id::new(rt.alloc(), text)?;
+        assert!(rt; id.is_some() == valid, "at {text:?}");
+        if let Some(id) = id {
+            assert!(rt; id.as_bytes() == text, "at {text:?}");
+        }
+    }
+    Ok(())
+}
+
+const NAMES: [(&[u8], bool, bool); 8] = [
+    (b"r1", true, true),
+    (b"sf.ethereum.type.v2.Block", true, false),
+    (b"R1", true, false),
+    (b"-", true, false),
+    (b"", false, false),
+    (b"a b", false, false),
+    (b"a\x7f", false, false),
+    (&[b'a'; 256], false, false),
+];
+
+#[test]
+fn types_and_readers_have_names_of_their_own(rt: HostRuntime) -> Result<(), Fail> {
+    for (text, is_type, is_reader) in NAMES {
+        let block_type = TypeName::new(rt.alloc(), text)?;
+        assert!(rt; block_type.is_some() == is_type, "at {text:?}");
+        if let Some(name) = block_type {
+            assert!(rt; name.as_bytes() == text, "at {text:?}");
+        }
+        let reader = ReaderName::new(rt.alloc(), text)?;
+        assert!(rt; reader.is_some() == is_reader, "at {text:?}");
+        if let Some(name) = reader {
+            assert!(rt; name.as_bytes() == text, "at {text:?}");
+        }
+    }
+    Ok(())
+}
+
+// SHA-256 of the byte 1.
+const DIGEST: [u8; 32] = [
+    0x4b, 0xf5, 0x12, 0x2f, 0x34, 0x45, 0x54, 0xc5, 0x3b, 0xde, 0x2e, 0xbb, 0x8c, 0xd2, 0xb7, 0xe3,
+    0xd1, 0x60, 0x0a, 0xd6, 0x31, 0xc3, 0x85, 0xa5, 0xd7, 0xcc, 0xe2, 0x3c, 0x77, 0x85, 0x45, 0x9a,
+];
+
+#[test]
+fn a_slip_shows_its_block(rt: HostRuntime) -> Result<(), Fail> {
+    let alloc = rt.alloc();
+    let payload = Bytes::new(alloc, &[1])?;
+    let digest = Sha256::digest(payload.as_bytes());
+    let block = Block {
+        num: 2,
+        id: Id::new(alloc, b"b2")?.ok_or("no id")?,
+        parent_num: 1,
+        parent_id: Id::new(alloc, b"a1")?.ok_or("no id")?,
+        lib_num: 9,
+        time: 1_500_000_000,
+        payload,
+        digest,
+    };
+    let slip = slip_of(alloc, &block)?;
+    assert_eq!(rt;
+        (slip.num, slip.parent_num, slip.lib_num, slip.time),
+        (2, 1, 9, 1_500_000_000)
+    );
+    assert!(rt; slip.id == block.id && slip.parent_id == block.parent_id);
+    assert!(rt; slip.length == 1 && slip.digest == DIGEST);
+    assert!(rt; slip.clone()? == slip);
+    assert!(rt; Bytes::from_vec(block.payload.into_vec()).as_bytes() == [1].as_slice());
+    Ok(())
+}
+
+#[test]
+fn kinds_differ_by_version_and_type(rt: HostRuntime) -> Result<(), Fail> {
+    let block_type = TypeName::new(rt.alloc(), b"test.Block")?.ok_or("no type")?;
+    let old = Kind {
+        version: Version::V1,
+        block_type: block_type.clone()?,
+    };
+    let new = Kind {
+        version: Version::V3,
+        block_type,
+    };
+    assert!(rt; old != new && old == old.clone()?);
+    Ok(())
+}
