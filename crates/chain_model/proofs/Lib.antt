@@ -1,0 +1,2 @@
+pub mod ScanFacts
+pub mod StandardFacts
