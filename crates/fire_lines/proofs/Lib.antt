@@ -1,0 +1,4 @@
+pub mod FieldFacts
+pub mod PartFacts
+pub mod PayloadFacts
+pub mod ReadFacts

@@ -1,0 +1,5 @@
+pub mod Parts
+pub mod Fields
+pub mod Line
+pub mod Text
+pub mod Reader
