@@ -1,0 +1,5 @@
+pub mod Offers
+pub mod StepText
+pub mod ErrorLines
+pub mod Taken
+pub mod Runs

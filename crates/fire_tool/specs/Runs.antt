@@ -1,0 +1,128 @@
+-- What a run of the program has done, by its status.
+use Rattle.std.specs.Prelude.{ℕ, ◌≡◌, ◌≢◌, ◌≤◌, ◌^◌, ◌⊎◌, Bool, false, List, [], ◌∷◌, length, MatchBool, Option, codes}
+use Rattle.std.specs.Str.{bytes_eq}
+use Rattle.std.specs.Io.KnownBytes.{IsAtEnd}
+use Rattle.outer_world.specs.Causes.{Rose}
+use Rattle.outer_world.specs.Told.{Grows, GrowsByFront, Took}
+use Rattle.fire_tool.specs.declared.steps.StepsStop.{StepsStop}
+use Rattle.fire_tool.specs.declared.steps.StepsStop.TheVariants.{Mem, Read, Write, TooLong}
+use Rattle.fire_tool.specs.StepText.{step_text}
+use Rattle.fire_tool.specs.ErrorLines.{ending_line, ending_status}
+
+-- an input and an output at one moment: what they tell of their bytes, and how often each has failed
+pub record Flow : Type 0 where
+  pub left : Option (List ℕ)
+  pub given : Option (List ℕ)
+  pub read_faults : ℕ
+  pub written : Option (List ℕ)
+  pub write_faults : ℕ
+
+-- the two together
+abbrev pub flow : Option (List ℕ) → Option (List ℕ) → ℕ → Option (List ℕ) → ℕ → Flow
+flow left given read_faults written write_faults = record { left = left; given = given; read_faults = read_faults; written = written; write_faults = write_faults }
+
+-- the streams of a run at one moment: its input and output, and where its error lines go
+pub record Streams : Type 0 where
+  pub flow : Flow
+  pub errors : Option (List ℕ)
+  pub error_faults : ℕ
+
+abbrev pub streams : Flow → Option (List ℕ) → ℕ → Streams
+streams io errors error_faults = record { flow = io; errors = errors; error_faults = error_faults }
+
+-- these bytes were taken of the input
+abbrev pub TookInput : Flow → Flow → List ℕ → Type 0
+TookInput before after input = Took before.left after.left before.given after.given input
+
+-- nothing was written to the output
+abbrev pub WroteNothing : Flow → Flow → Type 0
+WroteNothing before after = after.written ≡ before.written
+
+-- the line was written to the errors, or a front of it where a write to them failed
+abbrev pub ToldError : Streams → Streams → List ℕ → Type 0
+ToldError before after line = Grows before.errors after.errors line
+    ⊎ (Rose before.error_faults after.error_faults × GrowsByFront before.errors after.errors line)
+
+-- the statuses of a run that read its whole input and wrote its whole step text
+abbrev pub IsAnswer : ℕ → Type 0
+IsAnswer status = (status ≡ 0) ⊎ (status ≡ 5) ⊎ (status ≡ 6) ⊎ (status ≡ 12)
+
+-- the input was read to its end, its step text stands written, and the status and the line name what ended it
+pub record Answered (before after : Flow) (line : List ℕ) (status : ℕ) : Type 0 where
+  pub input : List ℕ
+  pub took : TookInput before after input
+  pub at_end : IsAtEnd after.left
+  pub text : Grows before.written after.written (step_text input).text
+  pub status_is : status ≡ ending_status (step_text input).ending
+  pub line_is : line ≡ ending_line (step_text input).ending
+
+-- there was no memory: some of the input may have been taken, and nothing was written
+pub record RanOut (before after : Flow) : Type 0 where
+  pub input : List ℕ
+  pub took : TookInput before after input
+  pub text : WroteNothing before after
+
+-- a read failed before the end of the input, and nothing was written
+pub record ReadFailed (before after : Flow) : Type 0 where
+  pub input : List ℕ
+  pub took : TookInput before after input
+  pub cause : Rose before.read_faults after.read_faults
+  pub text : WroteNothing before after
+
+-- the input was read to its end, and a write failed: a front of the step text stands written
+pub record WriteFailed (before after : Flow) : Type 0 where
+  pub input : List ℕ
+  pub took : TookInput before after input
+  pub at_end : IsAtEnd after.left
+  pub cause : Rose before.write_faults after.write_faults
+  pub text : GrowsByFront before.written after.written (step_text input).text
+
+-- so many bytes were taken that no end was waited for, and nothing was written
+pub record TookTooMuch (before after : Flow) : Type 0 where
+  pub input : List ℕ
+  pub took : TookInput before after input
+  pub cause : 2 ^ 40 ≤ length input
+  pub text : WroteNothing before after
+
+-- the input and the output were not touched
+pub record Untouched (before after : Flow) : Type 0 where
+  pub took : TookInput before after []
+  pub text : WroteNothing before after
+
+-- what `steps` has done where it stopped without an answer
+abbrev pub Stopped : StepsStop → Flow → Flow → Type 0
+Stopped Mem before after = RanOut before after
+Stopped Read before after = ReadFailed before after
+Stopped Write before after = WriteFailed before after
+Stopped TooLong before after = TookTooMuch before after
+
+-- the line that says why
+abbrev pub stop_line : StepsStop → List ℕ
+stop_line Mem = codes "fire: out of memory\n"
+stop_line Read = codes "fire: read fault\n"
+stop_line Write = codes "fire: write fault\n"
+stop_line TooLong = codes "fire: input too long\n"
+
+-- and the status
+abbrev pub stop_status : StepsStop → ℕ
+stop_status Mem = 1
+stop_status Read = 3
+stop_status Write = 4
+stop_status TooLong = 11
+
+-- whether the words are the one command
+abbrev pub names_steps : List (List ℕ) → Bool
+names_steps [] = false
+names_steps (word ∷ []) = bytes_eq word (codes "steps")
+names_steps (word ∷ next ∷ more) = false
+
+-- a run with these words that ended with this status: which statuses there are, and what stands after each
+pub record Runs (words : List (List ℕ)) (before after : Streams) (status : ℕ) : Type 0 where
+  pub known : IsAnswer status ⊎ (status ≡ 1) ⊎ (status ≡ 2) ⊎ (status ≡ 3) ⊎ (status ≡ 4) ⊎ (status ≡ 11)
+  pub usage : MatchBool (names_steps words) (status ≢ 2) (status ≡ 2)
+  pub answered : IsAnswer status → (line : List ℕ) × Answered before.flow after.flow line status × ToldError before after line
+  pub ran_out : status ≡ 1 → RanOut before.flow after.flow × ToldError before after (codes "fire: out of memory\n")
+  pub misused : status ≡ 2 → Untouched before.flow after.flow × ToldError before after (codes "fire: usage\n")
+  pub read_failed : status ≡ 3 → ReadFailed before.flow after.flow × ToldError before after (codes "fire: read fault\n")
+  pub write_failed : status ≡ 4 → WriteFailed before.flow after.flow × ToldError before after (codes "fire: write fault\n")
+  pub too_much : status ≡ 11 → TookTooMuch before.flow after.flow × ToldError before after (codes "fire: input too long\n")

@@ -1,0 +1,29 @@
+-- What an offered block changes.
+use Rattle.std.specs.Prelude.{ℕ, ◌≡◌, List, [], ◌∷◌, ◌++◌, map, reverse, None}
+use Rattle.block_record.specs.declared.blocks.Slip.{Slip}
+use Rattle.chain_model.specs.declared.places.Place.{Place}
+use Rattle.chain_model.specs.declared.places.Mode.TheVariants as mode
+use Rattle.chain_model.specs.Steps.{steps_of, plain_of}
+use Rattle.chain_model.specs.Places.{place_to}
+use Rattle.fire_tool.specs.declared.offers.Verdict.{Verdict}
+use Rattle.fire_tool.specs.declared.offers.Verdict.TheVariants.{Admitted, Duplicate, Unlinked, Contradicts}
+use Rattle.fire_tool.specs.StepText.{step_lines}
+
+-- the block was admitted and its steps were told: a history in order, the client's place and the text, before and after
+pub record Grown (s : Slip) (old new : List Slip) (from to : Place) (before after : List ℕ) : Type 0 where
+  pub history : new ≡ old ++ s ∷ []
+  pub place : to ≡ place_to (s ∷ reverse old) from mode.Live None
+  pub text : after ≡ before ++ step_lines (map plain_of (steps_of (s ∷ reverse old) from mode.Live None))
+
+-- nothing changed
+pub record Unchanged (old new : List Slip) (from to : Place) (before after : List ℕ) : Type 0 where
+  pub history : new ≡ old
+  pub place : to ≡ from
+  pub text : after ≡ before
+
+-- what an answer to the block changes
+abbrev pub IsTaken : Verdict → Slip → List Slip → List Slip → Place → Place → List ℕ → List ℕ → Type 0
+IsTaken Admitted s old new from to before after = Grown s old new from to before after
+IsTaken Duplicate s old new from to before after = Unchanged old new from to before after
+IsTaken Unlinked s old new from to before after = Unchanged old new from to before after
+IsTaken (Contradicts c) s old new from to before after = Unchanged old new from to before after

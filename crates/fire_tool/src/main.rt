@@ -1,0 +1,58 @@
+//! The program: it reads the lines of a ledger node, and prints the steps that its blocks bring about.
+#![tactic(auto)]
+
+mod error_lines;
+mod offers;
+mod run;
+mod steps;
+mod streams;
+mod telling;
+#[cfg(test)]
+mod tests;
+
+use outer_world::{NoShelf, write_whole};
+use run::run_plain;
+use std::alloc::{AllocError, Global};
+use std::process::ExitCode;
+use std::rt::Env;
+use std::{env, io};
+use streams::{Reading, Writing};
+
+fn main(rt: HostRuntime) -> ExitCode {
+    let alloc = rt.alloc();
+    let mut errors = Writing::new(rt.stderr());
+    let Ok(words) = words_of(&rt, alloc) else {
+        let _ = write_whole(&mut errors, b"fire: out of memory\n");
+        return ExitCode::from(1);
+    };
+    let mut input = Reading::new(rt.reader());
+    let mut output = Writing::new(io::writer(&rt));
+    let status = run_plain(
+        alloc,
+        words.as_slice(),
+        &mut input,
+        &mut output,
+        &mut errors,
+        &mut NoShelf,
+    );
+    ExitCode::from(status.code)
+}
+
+/// The words of the command line after the program's name, and none where one of them is no UTF-8,
+/// which names no command.
+fn words_of(
+    rt: &(impl Env + Alloc<A = Global>),
+    alloc: Global,
+) -> Result<Vec<Vec<u8>>, AllocError> {
+    let mut words = Vec::new(alloc);
+    match env::args(rt) {
+        Ok(args) => {
+            for arg in args.skip(1) {
+                words.push(Vec::from_slice(alloc, arg.as_bytes())?)?;
+            }
+            Ok(words)
+        }
+        Err(error) if error.kind() == io::ErrorKind::OutOfMemory => Err(AllocError),
+        Err(_) => Ok(words),
+    }
+}

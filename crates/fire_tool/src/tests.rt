@@ -1,0 +1,328 @@
+use crate::run::run_plain;
+use outer_world::{Failed, MemorySink, MemorySource, NoShelf, Sink, Source};
+use std::alloc::{AllocError, Global};
+use std::test::Fail;
+
+#[derive(Clone, Copy)]
+struct Row {
+    shows: &'static str,
+    input: &'static [u8],
+    output: &'static [u8],
+    error: &'static [u8],
+    status: u8,
+}
+
+const ROWS: [Row; 16] = [
+    Row {
+        shows: "no input",
+        input: b"",
+        output: b"",
+        error: b"",
+        status: 0,
+    },
+    Row {
+        shows: "a root",
+        input: b"FIRE INIT 3.0 test.Block\n\
+            FIRE BLOCK 1 a1 0 a0 0 0 AQ==\n",
+        output: b"newfinal 1 a1\n",
+        error: b"",
+        status: 0,
+    },
+    Row {
+        shows: "a chain whose second block becomes final",
+        input: b"FIRE INIT 3.0 test.Block\n\
+            FIRE BLOCK 1 a1 0 a0 0 0 AQ==\n\
+            FIRE BLOCK 2 b2 1 a1 1 0 AQ==\n\
+            FIRE BLOCK 3 c3 2 b2 2 0 AQ==\n",
+        output: b"newfinal 1 a1\nnew 2 b2\nfinal 2 b2\nnew 3 c3\n",
+        error: b"",
+        status: 0,
+    },
+    Row {
+        shows: "a tie, which sends nothing, and then a longer branch",
+        input: b"FIRE INIT 3.0 test.Block\n\
+            FIRE BLOCK 1 a1 0 a0 0 0 AQ==\n\
+            FIRE BLOCK 2 b2 1 a1 1 0 AQ==\n\
+            FIRE BLOCK 2 c2 1 a1 1 0 AQ==\n\
+            FIRE BLOCK 3 d3 2 c2 1 0 AQ==\n",
+        output: b"newfinal 1 a1\nnew 2 b2\nundo 2 b2\nnew 2 c2\nnew 3 d3\n",
+        error: b"",
+        status: 0,
+    },
+    Row {
+        shows: "a tie alone",
+        input: b"FIRE INIT 3.0 test.Block\n\
+            FIRE BLOCK 1 a1 0 a0 0 0 AQ==\n\
+            FIRE BLOCK 2 b2 1 a1 1 0 AQ==\n\
+            FIRE BLOCK 2 c2 1 a1 1 0 AQ==\n",
+        output: b"newfinal 1 a1\nnew 2 b2\n",
+        error: b"",
+        status: 0,
+    },
+    Row {
+        shows: "late finality that rules out a higher branch, and a block of that branch",
+        input: b"FIRE INIT 3.0 test.Block\n\
+            FIRE BLOCK 1 a1 0 a0 0 0 AQ==\n\
+            FIRE BLOCK 2 b2 1 a1 1 0 AQ==\n\
+            FIRE BLOCK 3 b3 2 b2 1 0 AQ==\n\
+            FIRE BLOCK 4 b4 3 b3 1 0 AQ==\n\
+            FIRE BLOCK 2 c2 1 a1 2 0 AQ==\n\
+            FIRE BLOCK 5 b5 4 b4 3 0 AQ==\n",
+        output: b"newfinal 1 a1\nnew 2 b2\nnew 3 b3\nnew 4 b4\n\
+            undo 4 b4\nundo 3 b3\nundo 2 b2\nnewfinal 2 c2\n",
+        error: b"fire: conflict finality held 2 c2 offered 5 b5\n",
+        status: 6,
+    },
+    Row {
+        shows: "a repeated block",
+        input: b"FIRE INIT 3.0 test.Block\n\
+            FIRE BLOCK 1 a1 0 a0 0 0 AQ==\n\
+            FIRE BLOCK 2 b2 1 a1 1 0 AQ==\n\
+            FIRE BLOCK 2 b2 1 a1 1 0 AQ==\n",
+        output: b"newfinal 1 a1\nnew 2 b2\n",
+        error: b"",
+        status: 0,
+    },
+    Row {
+        shows: "a held id with another payload",
+        input: b"FIRE INIT 3.0 test.Block\n\
+            FIRE BLOCK 1 a1 0 a0 0 0 AQ==\n\
+            FIRE BLOCK 2 b2 1 a1 1 0 AQ==\n\
+            FIRE BLOCK 2 b2 1 a1 1 0 Ag==\n",
+        output: b"newfinal 1 a1\nnew 2 b2\n",
+        error: b"fire: conflict id held 2 b2 offered 2 b2\n",
+        status: 6,
+    },
+    Row {
+        shows: "a parent of another number",
+        input: b"FIRE INIT 3.0 test.Block\n\
+            FIRE BLOCK 1 a1 0 a0 0 0 AQ==\n\
+            FIRE BLOCK 3 c3 2 a1 1 0 AQ==\n",
+        output: b"newfinal 1 a1\n",
+        error: b"fire: conflict parent held 1 a1 offered 3 c3\n",
+        status: 6,
+    },
+    Row {
+        shows: "a parent that is not held",
+        input: b"FIRE INIT 3.0 test.Block\n\
+            FIRE BLOCK 1 a1 0 a0 0 0 AQ==\n\
+            FIRE BLOCK 3 c3 2 b2 1 0 AQ==\n\
+            FIRE BLOCK 2 b2 1 a1 1 0 AQ==\n",
+        output: b"newfinal 1 a1\n",
+        error: b"fire: unlinked 3 c3\n",
+        status: 12,
+    },
+    Row {
+        shows: "a claim between skipped numbers",
+        input: b"FIRE INIT 3.0 test.Block\n\
+            FIRE BLOCK 1 a1 0 a0 0 0 AQ==\n\
+            FIRE BLOCK 2 b2 1 a1 1 0 AQ==\n\
+            FIRE BLOCK 5 e5 2 b2 4 0 AQ==\n",
+        output: b"newfinal 1 a1\nnew 2 b2\nfinal 2 b2\nnew 5 e5\n",
+        error: b"",
+        status: 0,
+    },
+    Row {
+        shows: "ids of 64 digits, a log line between, and lines ended by CR LF",
+        input: b"INFO starting node\r\n\
+            FIRE INIT 3.0 sf.ethereum.type.v2.Block\r\n\
+            FIRE BLOCK 18571000 \
+            6bfa0ba29b6a1bd2dd9bc7a1d0ba6b1e6e1b3e3f8c4a5d0f9e8d7c6b5a493827 18570999 \
+            b0f1a2b3c4d5e6f708192a3b4c5d6e7f8091a2b3c4d5e6f708192a3b4c5d6e7f 18570800 \
+            1699942000000000000 AQ==\r\n\
+            FIRE BLOCK 18571001 \
+            00112233445566778899aabbccddeeff00112233445566778899aabbccddeeff 18571000 \
+            6bfa0ba29b6a1bd2dd9bc7a1d0ba6b1e6e1b3e3f8c4a5d0f9e8d7c6b5a493827 18570801 \
+            1699942012000000000 AQ==\r\n",
+        output: b"newfinal 18571000 \
+            6bfa0ba29b6a1bd2dd9bc7a1d0ba6b1e6e1b3e3f8c4a5d0f9e8d7c6b5a493827\n\
+            new 18571001 \
+            00112233445566778899aabbccddeeff00112233445566778899aabbccddeeff\n",
+        error: b"",
+        status: 0,
+    },
+    Row {
+        shows: "number 0 and an empty payload",
+        input: b"FIRE INIT 3.0 test.Block\n\
+            FIRE BLOCK 0 g0 0 z0 0 0 \n",
+        output: b"newfinal 0 g0\n",
+        error: b"",
+        status: 0,
+    },
+    Row {
+        shows: "a bad line after a block",
+        input: b"FIRE INIT 3.0 test.Block\n\
+            FIRE BLOCK 1 a1 0 a0 0 0 AQ==\n\
+            FIRE BLOCK 007 b2 1 a1 1 0 AQ==\n\
+            FIRE BLOCK 2 b2 1 a1 1 0 AQ==\n",
+        output: b"newfinal 1 a1\n",
+        error: b"fire: bad line\n",
+        status: 5,
+    },
+    Row {
+        shows: "an input cut in the middle of a line",
+        input: b"FIRE INIT 3.0 test.Block\n\
+            FIRE BLOCK 1 a1 0 a0 0 0 AQ==\n\
+            FIRE BLOCK 2 b2 1 a1 1 0 AQ=",
+        output: b"newfinal 1 a1\n",
+        error: b"",
+        status: 0,
+    },
+    Row {
+        shows: "a block before the opening line",
+        input: b"FIRE BLOCK 1 a1 0 a0 0 0 AQ==\n",
+        output: b"",
+        error: b"fire: bad line\n",
+        status: 5,
+    },
+];
+
+#[test]
+fn each_input_has_its_steps_and_its_end(rt: HostRuntime) -> Result<(), Fail> {
+    let alloc = rt.alloc();
+    let words = [Vec::from_slice(alloc, b"steps")?];
+    for row in ROWS {
+        let mut input = MemorySource::new(Vec::from_slice(alloc, row.input)?);
+        let mut output = MemorySink::new(alloc, 1024)?;
+        let mut errors = MemorySink::new(alloc, 1024)?;
+        let status = run_plain(
+            alloc,
+            &words,
+            &mut input,
+            &mut output,
+            &mut errors,
+            &mut NoShelf,
+        );
+        assert!(rt;
+            status.code == row.status,
+            "{}: status {}",
+            row.shows,
+            status.code
+        );
+        assert!(rt;
+            output.written() == Some(row.output),
+            "{}: output",
+            row.shows
+        );
+        assert!(rt; errors.written() == Some(row.error), "{}: error", row.shows);
+    }
+    Ok(())
+}
+
+#[test]
+fn other_words_are_refused(rt: HostRuntime) -> Result<(), Fail> {
+    let alloc = rt.alloc();
+    let text = b"FIRE INIT 3.0 t\n";
+    for line in ["", "Steps", "steps --first 2"] {
+        let words = words_of(alloc, line)?;
+        let mut input = MemorySource::new(Vec::from_slice(alloc, text)?);
+        let mut output = MemorySink::new(alloc, 64)?;
+        let mut errors = MemorySink::new(alloc, 64)?;
+        let shelf = &mut NoShelf;
+        let status = run_plain(
+            alloc,
+            words.as_slice(),
+            &mut input,
+            &mut output,
+            &mut errors,
+            shelf,
+        );
+        assert_eq!(rt; status.code, 2, "at {line}");
+        assert!(rt; output.written() == Some(b"".as_slice()), "at {line}");
+        assert!(rt;
+            errors.written() == Some(b"fire: usage\n".as_slice()),
+            "at {line}"
+        );
+    }
+    Ok(())
+}
+
+/// The words of a line.
+fn words_of(alloc: Global, line: &str) -> Result<Vec<Vec<u8>>, AllocError> {
+    let mut words = Vec::new(alloc);
+    for word in line.split_whitespace() {
+        words.push(Vec::from_slice(alloc, word.as_bytes())?)?;
+    }
+    Ok(words)
+}
+
+// A stream that fails at each call.
+#[derive(Drop)]
+struct Broken {
+    faults: u64,
+}
+
+impl Source for Broken {
+    ghost use Rattle.std.specs.Prelude.{None};
+
+    ghost left = { λ _. None };
+
+    ghost given = { λ _. None };
+
+    ghost read_faults = { λ s. s.faults };
+
+    fn read(&mut self, _buf: &mut [u8]) -> Result<usize, Failed> {
+        self.faults = self.faults.saturating_add(1);
+        Err(Failed)
+    }
+}
+
+impl Sink for Broken {
+    ghost use Rattle.std.specs.Prelude.{None};
+
+    ghost written = { λ _. None };
+
+    ghost write_faults = { λ s. s.faults };
+
+    fn write(&mut self, _piece: &[u8]) -> Result<usize, Failed> {
+        self.faults = self.faults.saturating_add(1);
+        Err(Failed)
+    }
+}
+
+#[test]
+fn each_stream_that_fails_has_its_status(rt: HostRuntime) -> Result<(), Fail> {
+    let alloc = rt.alloc();
+    let words = [Vec::from_slice(alloc, b"steps")?];
+    let text = b"FIRE INIT 3.0 test.Block\nFIRE BLOCK 1 a1 0 a0 0 0 AQ==\n";
+    let mut output = MemorySink::new(alloc, 64)?;
+    let mut errors = MemorySink::new(alloc, 64)?;
+    let mut broken = Broken { faults: 0 };
+    let read = run_plain(
+        alloc,
+        &words,
+        &mut broken,
+        &mut output,
+        &mut errors,
+        &mut NoShelf,
+    );
+    assert_eq!(rt; (read.code, broken.faults), (3, 1));
+    assert!(rt; output.written() == Some([].as_slice()));
+    assert!(rt; errors.written() == Some(b"fire: read fault\n".as_slice()));
+
+    let mut input = MemorySource::new(Vec::from_slice(alloc, text)?);
+    let mut errors = MemorySink::new(alloc, 64)?;
+    let write = run_plain(
+        alloc,
+        &words,
+        &mut input,
+        &mut broken,
+        &mut errors,
+        &mut NoShelf,
+    );
+    assert_eq!(rt; (write.code, broken.faults), (4, 2));
+    assert!(rt; errors.written() == Some(b"fire: write fault\n".as_slice()));
+
+    let mut input = MemorySource::new(Vec::from_slice(alloc, text)?);
+    let told = run_plain(
+        alloc,
+        &words,
+        &mut input,
+        &mut output,
+        &mut broken,
+        &mut NoShelf,
+    );
+    assert_eq!(rt; told.code, 0);
+    assert!(rt; output.written() == Some(b"newfinal 1 a1\n".as_slice()));
+    Ok(())
+}
