@@ -1,0 +1,5 @@
+use Rattle.chain_laws.proofs.Orders.{claims_agree_in_any_order}
+use Rattle.chain_laws.proofs.claims_agree_in_any_order.Goals as goal
+
+pub returns : goal.returns
+returns c = claims_agree_in_any_order

@@ -1,0 +1,5 @@
+use Rattle.chain_laws.proofs.Tips.{claims_go_on_to_agree}
+use Rattle.chain_laws.proofs.claims_go_on_to_agree.Goals as goal
+
+pub returns : goal.returns
+returns c = claims_go_on_to_agree

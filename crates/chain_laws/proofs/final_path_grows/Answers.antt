@@ -1,0 +1,5 @@
+use Rattle.chain_laws.proofs.Growth.{final_path_grows}
+use Rattle.chain_laws.proofs.final_path_grows.Goals as goal
+
+pub returns : goal.returns
+returns c = final_path_grows
