@@ -1,0 +1,4 @@
+pub mod Chronicles
+pub mod Passes
+pub mod Turns
+pub mod Tells
