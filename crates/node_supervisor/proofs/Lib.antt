@@ -1,0 +1,3 @@
+pub mod WaitFacts
+pub mod TableFacts
+pub mod RunFacts
