@@ -1,5 +1,6 @@
 use crate::run::run_plain;
-use outer_world::{Failed, MemorySink, MemorySource, NoShelf, Sink, Source};
+use memory_world::{MemorySink, MemorySource};
+use outer_world::{Failed, NoShelf, Sink, Source};
 use std::alloc::{AllocError, Global};
 use std::test::Fail;
 

@@ -1,4 +1,3 @@
 pub mod Causes
 pub mod Told
-pub mod Memory
 pub mod Stops

@@ -2,11 +2,9 @@
 #![tactic(auto)]
 
 mod calls;
-mod memory;
 mod traits;
 
 pub use calls::{ReadStop, TEXT_BYTES_MAX, read_whole, write_whole};
-pub use memory::{MemorySink, MemorySource};
 pub use traits::{Failed, NoShelf, Shelf, Sink, Source};
 
 #[cfg(test)]

@@ -1,46 +1,16 @@
-use crate::{Failed, MemorySink, MemorySource, ReadStop, Sink, Source, read_whole, write_whole};
+use crate::{Failed, ReadStop, Sink, Source, read_whole, write_whole};
 use std::test::Fail;
 
-#[test]
-fn a_source_gives_its_bytes_once(rt: HostRuntime) -> Result<(), Fail> {
-    let mut source = MemorySource::new(Vec::from_slice(rt.alloc(), b"abcde")?);
-    let mut buf = [0; 3];
-    for (want, count) in [
-        (b"abc".as_slice(), 3),
-        (b"de".as_slice(), 2),
-        (b"".as_slice(), 0),
-    ] {
-        assert_eq!(rt; source.read(&mut buf), Ok(count));
-        assert!(rt; buf.get(..count) == Some(want), "at {count}");
-    }
-    Ok(())
-}
-
-#[test]
-fn a_whole_text_is_read_and_written(rt: HostRuntime) -> Result<(), Fail> {
-    let text = Vec::from_slice(rt.alloc(), &[b'x'; 200])?;
-    let mut source = MemorySource::new(text.clone()?);
-    match read_whole(rt.alloc(), &mut source) {
-        Ok(read) => assert!(rt; read.as_slice() == text.as_slice()),
-        Err(_) => assert!(rt; false, "the text was not read"),
-    }
-    let mut sink = MemorySink::new(rt.alloc(), 200)?;
-    assert_eq!(rt; write_whole(&mut sink, text.as_slice()), Ok(()));
-    assert!(rt; sink.written() == Some(text.as_slice()));
-    assert_eq!(rt; sink.write(b"y"), Ok(1));
-    assert!(rt; sink.written().is_none(), "past its room");
-    Ok(())
-}
-
-// Gives one byte a call, and fails at the call with this number, counted from 0.
+// Gives so many bytes, one a call. The call with this number, counted from 0, fails.
 #[derive(Drop)]
-struct Flaky {
+struct FlakySource {
+    left: u64,
     calls: u64,
     fails: u64,
     faults: u64,
 }
 
-impl Source for Flaky {
+impl Source for FlakySource {
     ghost use Rattle.std.specs.Prelude.{None};
 
     ghost left = { λ _. None };
@@ -56,27 +26,79 @@ impl Source for Flaky {
         }
         self.calls = self.calls.saturating_add(1);
         match buf.first_mut() {
-            Some(byte) => {
+            Some(byte) if self.left > 0 => {
                 *byte = b'z';
+                self.left -= 1;
                 Ok(1)
             }
-            None => Ok(0),
+            _ => Ok(0),
         }
     }
 }
 
 #[test]
-fn a_failed_read_is_no_end_of_text(rt: HostRuntime) {
-    for fails in 0..3 {
-        let mut source = Flaky {
+fn a_text_is_read_to_its_end_or_to_a_failure(rt: HostRuntime) {
+    for fails in 0..5 {
+        let mut source = FlakySource {
+            left: 3,
             calls: 0,
             fails,
             faults: 0,
         };
         match read_whole(rt.alloc(), &mut source) {
-            Err(stop) => assert_eq!(rt; stop, ReadStop::Fault),
-            Ok(_) => assert!(rt; false, "call {fails} failed"),
+            Err(stop) => {
+                assert_eq!(rt; stop, ReadStop::Fault);
+                assert_eq!(rt; source.calls, fails);
+            }
+            Ok(text) => {
+                assert!(rt; fails == 4, "call {fails} failed");
+                assert!(rt; text.as_slice() == b"zzz".as_slice());
+            }
         }
-        assert_eq!(rt; source.calls, fails);
     }
+}
+
+// Takes one byte a call. The call with this number, counted from 0, fails.
+#[derive(Drop)]
+struct FlakySink {
+    taken: Vec<u8>,
+    calls: u64,
+    fails: u64,
+    faults: u64,
+}
+
+impl Sink for FlakySink {
+    ghost use Rattle.std.specs.Prelude.{None};
+
+    ghost written = { λ _. None };
+
+    ghost write_faults = { λ s. s.faults };
+
+    fn write(&mut self, piece: &[u8]) -> Result<usize, Failed> {
+        let Some(byte) = piece.first() else {
+            return Ok(0);
+        };
+        if self.calls == self.fails || self.taken.push(*byte).is_err() {
+            self.faults = self.faults.saturating_add(1);
+            return Err(Failed);
+        }
+        self.calls = self.calls.saturating_add(1);
+        Ok(1)
+    }
+}
+
+#[test]
+fn a_text_is_written_whole_or_up_to_a_failure(rt: HostRuntime) -> Result<(), Fail> {
+    for (fails, taken) in [(0, ""), (1, "a"), (2, "ab"), (3, "abc")] {
+        let mut sink = FlakySink {
+            taken: Vec::new(rt.alloc()),
+            calls: 0,
+            fails,
+            faults: 0,
+        };
+        let written = write_whole(&mut sink, b"abc");
+        assert_eq!(rt; written.is_ok(), fails == 3, "at {taken}");
+        assert!(rt; sink.taken.as_slice() == taken.as_bytes(), "at {taken}");
+    }
+    Ok(())
 }

@@ -1,7 +1,7 @@
 use Rattle.std.proofs.Common.{ap}
 use Rattle.std.proofs.Math.Seq.{length_front}
-use Rattle.outer_world.proofs.TakenFacts.{left_read, given_read}
-use Rattle.outer_world.proofs.memory.MemorySourceSource.read.Goals as goal
+use Rattle.memory_world.proofs.ReadFacts.{left_read, given_read}
+use Rattle.memory_world.proofs.memory.MemorySourceSource.read.Goals as goal
 
 pub returns-clause-left : goal.returns-clause-left
 returns-clause-left c =

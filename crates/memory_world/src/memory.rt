@@ -1,13 +1,14 @@
 //! Sources and sinks in memory, which never fail.
 
-ghost use Rattle.std.specs.Prelude.{◌≡◌, Some, Ok, IfOk, length};
+ghost use Rattle.std.specs.Prelude.{◌≡◌, Some, Ok, IfOk, length, min};
 ghost use Rattle.std.specs.Option.{option_copied};
-ghost use Rattle.std.specs.Io.{WritesAtMost};
+ghost use Rattle.std.specs.Io.{ReadsAtMost, WritesAtMost};
+ghost use Rattle.std.specs.Io.KnownBytes.{ReadConsumes};
 ghost use Rattle.outer_world.specs.Causes.{HasCause};
-ghost use Rattle.outer_world.specs.Told.{TakesSome, WriteGrows};
-ghost use Rattle.outer_world.specs.Memory.{empty, fresh, sink_after};
+ghost use Rattle.outer_world.specs.Told.{ReadGives, TakesSome, WriteGrows};
+ghost use Rattle.memory_world.specs.Memory.{empty, fresh, sink_after};
 
-use crate::traits::{Failed, Sink, Source};
+use outer_world::{Failed, Sink, Source};
 use std::alloc::{AllocError, Global};
 use std::marker::Model;
 
@@ -20,7 +21,7 @@ pub struct MemorySource {
 
 impl Model for MemorySource {
     ghost use Rattle.std.specs.Prelude.{◌≤◌, length, take, drop};
-    ghost use Rattle.outer_world.specs.Memory.{SourceState};
+    ghost use Rattle.memory_world.specs.Memory.{SourceState};
 
     ghost Value = { SourceState };
 
@@ -45,7 +46,14 @@ impl Source for MemorySource {
 
     ghost read_faults = { λ _. 0 };
 
-    fn read(&mut self, buf: &mut [u8]) -> Result<usize, Failed> {
+    /// Gives as many bytes as fit.
+    fn read(&mut self, buf: &mut [u8]) -> Result<usize, Failed>
+        ensures bound { ReadsAtMost result buf.new }
+        ensures left { ReadConsumes (Some self.old.left) (Some self.new.left) result buf.new }
+        ensures given { ReadGives (Some self.old.given) (Some self.new.given) result buf.new }
+        ensures cause { HasCause 0 0 result }
+        ensures size { result ≡ Ok (min (length buf.old) (length self.old.left)) }
+    {
         let count = buf.len().min(self.bytes.len() - self.at);
         buf[..count].copy_from_slice(&self.bytes[self.at..self.at + count]);
         self.at += count;
@@ -64,7 +72,7 @@ pub struct MemorySink {
 
 impl Model for MemorySink {
     ghost use Rattle.std.specs.Prelude.{◌≤◌, None, Some, if◌then◌else◌, vec_len, vec_capacity};
-    ghost use Rattle.outer_world.specs.Memory.{SinkState};
+    ghost use Rattle.memory_world.specs.Memory.{SinkState};
 
     ghost Value = { SinkState };
 
