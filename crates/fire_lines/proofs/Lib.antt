@@ -1,4 +1,8 @@
 pub mod FieldFacts
+pub mod FrontFacts
+pub mod LineFacts
 pub mod PartFacts
 pub mod PayloadFacts
-pub mod ReadFacts
+pub mod PieceFacts
+pub mod GrowthFacts
+pub mod PrintFacts

@@ -3,3 +3,5 @@ pub mod Fields
 pub mod Line
 pub mod Text
 pub mod Reader
+pub mod Printed
+pub mod Laws

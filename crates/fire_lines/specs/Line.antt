@@ -1,5 +1,5 @@
 -- What one line of a node says.
-use Rattle.std.specs.Prelude.{ℕ, Bool, false, nat_eq, nat_lt, List, [], ◌∷◌, length, drop, if◌then◌else◌, Option, None, Some, Result, Ok, Err, codes}
+use Rattle.std.specs.Prelude.{ℕ, Bool, false, nat_eq, nat_lt, List, [], ◌∷◌, length, take, drop, if◌then◌else◌, Option, None, Some, Result, Ok, Err, codes}
 use Rattle.std.specs.List.{starts_with}
 use Rattle.std.specs.Str.{bytes_eq}
 use Rattle.block_record.specs.declared.blocks.Slip.{Slip}
@@ -68,6 +68,10 @@ words_say number held (word ∷ rest) =
 -- whether a line is for the reader
 abbrev pub is_fire : List ℕ → Bool
 is_fire line = starts_with nat_eq line (codes "FIRE ")
+
+-- whether a line that begins so may be for the reader: its first five bytes are a front of `FIRE `
+abbrev pub may_be_fire : List ℕ → Bool
+may_be_fire line = starts_with nat_eq (codes "FIRE ") (take 5 line)
 
 -- whether a line is for the reader and has more bytes than the limit
 abbrev pub is_too_long : ℕ → List ℕ → Bool

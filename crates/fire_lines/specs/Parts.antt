@@ -13,6 +13,16 @@ abbrev pub parts : ℕ → List ℕ → List (List ℕ)
 parts separator [] = [] ∷ []
 parts separator (b ∷ text) = if b == separator then [] ∷ parts separator text else onto_first b (parts separator text)
 
+-- the last of the parts
+abbrev pub last_part : List (List ℕ) → List ℕ
+last_part [] = []
+last_part (part ∷ []) = part
+last_part (part ∷ next ∷ more) = last_part (next ∷ more)
+
+-- what follows the last LF of a text
+abbrev pub tail_of : List ℕ → List ℕ
+tail_of text = last_part (parts 10 text)
+
 -- the words of a text, between single spaces
 abbrev pub words : List ℕ → List (List ℕ)
 words text = parts 32 text

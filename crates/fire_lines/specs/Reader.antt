@@ -1,27 +1,40 @@
 -- How contracts see a reader of lines, and what a feed leaves.
-use Rattle.std.specs.Prelude.{ℕ, ◌+◌, ◌≡◌, ◌≢◌, List, [], ◌∷◌, ◌++◌, Option, None, Some, Result, Err, MatchResult}
+use Rattle.std.specs.Prelude.{ℕ, ◌≡◌, ◌≢◌, List, [], ◌∷◌, ◌++◌, Option, None, Some, Result, Err, MatchResult, if◌then◌else◌}
 use mathlib.Core.List.{IsPrefix}
 use Rattle.block_record.specs.declared.blocks.Kind.{Kind}
 use Rattle.block_record.specs.declared.blocks.Slip.{Slip}
 use Rattle.fire_lines.specs.declared.faults.LineFault.{LineFault}
 use Rattle.fire_lines.specs.declared.faults.LineFault.TheVariants.{Mem}
-use Rattle.fire_lines.specs.Line.{Saying, passes, opens, brings, is_bad}
-use Rattle.fire_lines.specs.Text.{Received}
+use Rattle.fire_lines.specs.Parts.{tail_of, without_cr}
+use Rattle.fire_lines.specs.Line.{Saying, passes, opens, brings, is_bad, says, may_be_fire}
+use Rattle.fire_lines.specs.Text.{received, next_line, tail_fault}
 
--- a reader: its limit on the bytes of a line, and of its run the kind, the number of lines read and the fault
+-- a reader: its limit on the bytes of a line; of its run the kind, the number of lines read and the fault; and what it keeps of the line in progress
 pub record ReaderState : Type 0 where
   pub max : ℕ
   pub kind : Option Kind
   pub lines : ℕ
   pub fault : Option LineFault
+  pub partial : Option (List ℕ)
 
--- a reader that has read nothing of its run
-abbrev pub unread : ℕ → ReaderState
-unread max = record { max = max; kind = None; lines = 0; fault = None }
+-- what is kept of a line in progress: its bytes where it is or may be for the reader, and nothing where it is passed over, however long
+abbrev pub kept : List ℕ → Option (List ℕ)
+kept tail = if may_be_fire tail then Some tail else None
 
--- a reader that has read what was received
-abbrev pub has_read : ℕ → Received → ReaderState
-has_read max r = record { max = max; kind = r.kind; lines = r.lines; fault = r.fault }
+-- a reader that has stopped at a fault keeps no bytes
+abbrev pub kept_after : Option LineFault → List ℕ → Option (List ℕ)
+kept_after None tail = kept tail
+kept_after (Some f) tail = Some []
+
+-- a reader that was fed this text of its run, in any pieces
+abbrev pub state_after : ℕ → List ℕ → ReaderState
+state_after max text = record {
+  max = max;
+  kind = (received max text).kind;
+  lines = (received max text).lines;
+  fault = (received max text).fault;
+  partial = kept_after (received max text).fault (tail_of text);
+}
 
 -- the kind of a run after a line that says this
 abbrev pub kind_after : Saying → Option Kind → Option Kind
@@ -44,19 +57,27 @@ fault_of (opens k) = None
 fault_of (brings s) = None
 fault_of (is_bad f) = Some f
 
--- a reader at this fault, or as it was
-abbrev pub with_fault : Option LineFault → ReaderState → ReaderState
-with_fault None r = r
-with_fault (Some f) r = record r { fault = Some f }
+-- what the line says that a reader takes next, its CR still on it
+abbrev pub line_says : ReaderState → List ℕ → Saying
+line_says r line = says r.max (next_line r.lines) r.kind (without_cr line)
 
--- a reader after one more line with this fault, or with none
+-- a reader that stops at this fault, or begins its next line
 abbrev pub counted : Option LineFault → ReaderState → ReaderState
-counted None r = record r { lines = r.lines + 1 }
-counted (Some f) r = record r { fault = Some f }
+counted None r = record r { lines = next_line r.lines; partial = Some [] }
+counted (Some f) r = record r { fault = Some f; partial = Some [] }
 
 -- a reader after one more line that says this
 abbrev pub with_line : Saying → ReaderState → ReaderState
 with_line saying r = counted (fault_of saying) (record r { kind = kind_after saying r.kind })
+
+-- a reader whose line in progress stands here, where that is this fault or none
+abbrev pub in_progress : Option LineFault → List ℕ → ReaderState → ReaderState
+in_progress None tail r = record r { partial = kept tail }
+in_progress (Some f) tail r = record r { fault = Some f; partial = Some [] }
+
+-- a reader whose line in progress stands here
+abbrev pub with_tail : List ℕ → ReaderState → ReaderState
+with_tail tail r = in_progress (tail_fault r.max r.lines (without_cr tail)) tail r
 
 -- a fact, unless there was no memory
 abbrev pub UnlessMem : {T : Type 0} → Result T LineFault → Type 0 → Type 0
@@ -73,3 +94,7 @@ GrowsBy old new slips = new ≡ old ++ slips
 -- blocks grew by a front of these slips
 abbrev pub GrowsByFront : List Slip → List Slip → List Slip → Type 0
 GrowsByFront old new slips = (front : List Slip) × IsPrefix front slips × GrowsBy old new front
+
+-- these are the slips that a text gives with a further piece, beyond those that it gives without
+abbrev pub AreFurther : ℕ → List ℕ → List ℕ → List Slip → Type 0
+AreFurther max text piece more = (received max (text ++ piece)).slips ≡ (received max text).slips ++ more

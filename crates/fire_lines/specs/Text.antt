@@ -1,5 +1,5 @@
 -- What a whole text of a node's run says.
-use Rattle.std.specs.Prelude.{ℕ, ◌+◌, List, [], ◌∷◌, ◌++◌, if◌then◌else◌, Option, None, Some}
+use Rattle.std.specs.Prelude.{ℕ, ◌+◌, ◌-◌, ◌^◌, min, List, [], ◌∷◌, ◌++◌, if◌then◌else◌, Option, None, Some}
 use Rattle.block_record.specs.declared.blocks.Slip.{Slip}
 use Rattle.block_record.specs.declared.blocks.Kind.{Kind}
 use Rattle.fire_lines.specs.declared.faults.LineFault.{LineFault}
@@ -29,16 +29,20 @@ then_receive (opens k) lines kind more = more (Some k)
 then_receive (brings s) lines kind more = after (s ∷ []) (more kind)
 then_receive (is_bad f) lines kind more = ends kind lines (Some f)
 
+-- the number of lines after one more; it stands still at the largest that is told
+unfoldable pub next_line : ℕ → ℕ
+next_line lines = min (lines + 1) (2 ^ 64 - 1)
+
 -- what follows the last LF is no line; for the reader and longer than the limit, it is bad all the same
 abbrev pub tail_fault : ℕ → ℕ → List ℕ → Option LineFault
-tail_fault max lines tail = if is_too_long max tail then Some (TooLong (lines + 1)) else None
+tail_fault max lines tail = if is_too_long max tail then Some (TooLong (next_line lines)) else None
 
 -- the parts of a text between its LFs, after so many lines of a run with this kind: lines, and the tail as the last part
 abbrev pub receive : ℕ → ℕ → Option Kind → List (List ℕ) → Received
 receive max lines kind [] = ends kind lines None
 receive max lines kind (tail ∷ []) = ends kind lines (tail_fault max lines (without_cr tail))
 receive max lines kind (line ∷ next ∷ more) =
-    then_receive (says max (lines + 1) kind (without_cr line)) lines kind (λ k. receive max (lines + 1) k (next ∷ more))
+    then_receive (says max (next_line lines) kind (without_cr line)) lines kind (λ k. receive max (next_line lines) k (next ∷ more))
 
 -- what a run's text says, with this limit on the bytes of a line
 abbrev pub received : ℕ → List ℕ → Received

@@ -1,20 +1,22 @@
 //! The reader of a run's lines.
 
-ghost use Rattle.std.specs.Prelude.{◌≡◌, ◌+◌, ◌<◌, ◌^◌, map, Err};
+ghost use Rattle.std.specs.Prelude.{◌≡◌, ◌++◌, ℕ, List, Some, Err, [], map};
 ghost use Rattle.std.specs.Option.{option_copied};
+ghost use Rattle.block_record.specs.declared.blocks.Slip.{Slip};
 ghost use Rattle.block_record.specs.Slips.{slip};
-ghost use Rattle.fire_lines.specs.Line.{says, init_says, block_says, kind_of};
-ghost use Rattle.fire_lines.specs.Parts.{words_left};
-ghost use Rattle.fire_lines.specs.Text.{received, tail_fault};
-ghost use Rattle.fire_lines.specs.Reader.{unread, has_read, kind_after, slips_of, fault_of, with_line, with_fault, UnlessMem, Answers, GrowsBy, GrowsByFront};
+ghost use Rattle.fire_lines.specs.Line.{says, init_says, block_says, kind_of, may_be_fire, is_too_long};
+ghost use Rattle.fire_lines.specs.Parts.{words_left, without_cr as cut_cr};
+ghost use Rattle.fire_lines.specs.Text.{received, tail_fault, next_line as line_after};
+ghost use Rattle.fire_lines.specs.Reader.{state_after, kept, kind_after, slips_of, fault_of, line_says, with_line, with_tail, UnlessMem, Answers, GrowsBy, GrowsByFront, AreFurther};
 
 use crate::faults::LineFault;
 use crate::fields::read_block;
 use crate::init::read_kind;
-use crate::words::{Words, split_once, without_cr};
+use crate::words::{Words, goes_on, is_long, split_once, without_cr};
 use block_record::{Block, Kind};
 use std::alloc::Global;
 use std::marker::Model;
+use std::mem;
 
 /// A reader of the lines of one node's run.
 #[derive(Drop)]
@@ -24,22 +26,37 @@ pub struct LineReader {
     kind: Option<Kind>,
     lines: u64,
     fault: Option<LineFault>,
+    /// The line in progress, unless it is passed over.
+    partial: Vec<u8>,
+    /// The line in progress is passed over, and `partial` is empty.
+    passes: bool,
     /// The last payload that was decoded, kept for its room.
     decoded: Vec<u8>,
 }
 
 impl Model for LineReader {
+    ghost use Rattle.std.specs.Prelude.{◌≡◌, [], cond, None, Some, IsTrue};
+    ghost use Rattle.fire_lines.specs.Line.{may_be_fire};
     ghost use Rattle.fire_lines.specs.Reader.{ReaderState};
 
     ghost Value = { ReaderState };
 
-    ghost view = { λ r. record { max = r.max; kind = r.kind; lines = r.lines; fault = r.fault } };
+    ghost view = { λ r. record {
+      max = r.max;
+      kind = r.kind;
+      lines = r.lines;
+      fault = r.fault;
+      partial = cond r.passes None (Some r.partial.items);
+    } };
+
+    ghost invariant = { λ r. IsTrue (may_be_fire r.partial.items)
+        × (IsTrue r.passes → r.partial.items ≡ []) };
 }
 
 impl LineReader {
     /// A reader that takes lines of at most `max` bytes, the LF and a CR before it not counted.
     pub fn new(alloc: Global, max: usize) -> LineReader
-        ensures { result ≡ unread max }
+        ensures { result ≡ state_after max [] }
     {
         LineReader {
             alloc,
@@ -47,34 +64,50 @@ impl LineReader {
             kind: None,
             lines: 0,
             fault: None,
+            partial: Vec::new(alloc),
+            passes: false,
             decoded: Vec::new(alloc),
         }
     }
 
-    /// Reads the text of a run, and appends the blocks of its lines up to the first bad one.
+    /// Reads a further piece of the run's text, and appends the blocks of the lines that end in it,
+    /// up to the first bad line.
     pub fn feed(&mut self, piece: &[u8], out: &mut Vec<Block>) -> Result<(), LineFault>
-        requires { self.old ≡ unread self.old.max }
+        // Whatever text of the run was fed before, in any pieces, the answer is that to all of it.
+        ensures further { (text : List ℕ) → self.old ≡ state_after self.old.max text
+            → UnlessMem result ((more : List Slip) × AreFurther self.old.max text piece.now more
+            × GrowsBy (map slip out.old.items) (map slip out.new.items) more) }
+        ensures answer { (text : List ℕ) → self.old ≡ state_after self.old.max text
+            → UnlessMem result (Answers result (received self.old.max (text ++ piece.now)).fault) }
+        ensures state { (text : List ℕ) → self.old ≡ state_after self.old.max text
+            → UnlessMem result (self.new ≡ state_after self.old.max (text ++ piece.now)) }
 
-        // The blocks before the first bad line, and its fault.
-        ensures blocks { UnlessMem result
-            (GrowsBy (map slip out.old.items) (map slip out.new.items)
-            (received self.old.max piece.now).slips) }
-        ensures answer { UnlessMem result
-            (Answers result (received self.old.max piece.now).fault) }
-        ensures state { UnlessMem result
-            (self.new ≡ has_read self.old.max (received self.old.max piece.now)) }
+        // Without memory some of the first blocks are there, and the fault stays.
+        ensures memory { (text : List ℕ) → self.old ≡ state_after self.old.max text
+            → result ≡ Err LineFault.Mem
+            → (more : List Slip) × AreFurther self.old.max text piece.now more
+            × GrowsByFront (map slip out.old.items) (map slip out.new.items) more }
+        ensures keeps { result ≡ Err LineFault.Mem → self.new.fault ≡ Some LineFault.Mem }
 
-        // Without memory some of the first blocks are there.
-        ensures memory { result ≡ Err LineFault.Mem →
-            GrowsByFront (map slip out.old.items) (map slip out.new.items)
-            (received self.old.max piece.now).slips }
+        // After a fault it answers the same fault, and gives nothing.
+        ensures stopped { (fault : LineFault) → self.old.fault ≡ Some fault
+            → (result ≡ Err fault) × (self.new ≡ self.old) × (out.new ≡ out.old) }
     {
-        let mut rest = piece;
-        while let Some((line, more)) = split_once(rest, b'\n') {
-            self.take_line(without_cr(line), out)?;
-            rest = more;
+        if let Some(fault) = self.fault {
+            return Err(fault);
         }
-        self.take_tail(without_cr(rest))
+        self.take_piece(piece, out)
+    }
+
+    /// Drops what was read of the run, its kind and its fault, and begins a new run at line 1.
+    pub fn end(&mut self)
+        ensures { self.new ≡ state_after self.old.max [] }
+    {
+        self.kind = None;
+        self.lines = 0;
+        self.fault = None;
+        self.partial.clear();
+        self.passes = false;
     }
 
     /// The number of lines that were read of the run, up to the first bad one.
@@ -91,20 +124,88 @@ impl LineReader {
         self.kind.as_ref()
     }
 
-    /// Takes a line, without its LF and the CR before it.
+    /// Takes a piece, where there was no fault before.
+    fn take_piece(&mut self, piece: &[u8], out: &mut Vec<Block>) -> Result<(), LineFault>
+        requires { self.old.fault ≡ None }
+        ensures further { (text : List ℕ) → self.old ≡ state_after self.old.max text
+            → UnlessMem result ((more : List Slip) × AreFurther self.old.max text piece.now more
+            × GrowsBy (map slip out.old.items) (map slip out.new.items) more) }
+        ensures answer { (text : List ℕ) → self.old ≡ state_after self.old.max text
+            → UnlessMem result (Answers result (received self.old.max (text ++ piece.now)).fault) }
+        ensures state { (text : List ℕ) → self.old ≡ state_after self.old.max text
+            → UnlessMem result (self.new ≡ state_after self.old.max (text ++ piece.now)) }
+        ensures memory { (text : List ℕ) → self.old ≡ state_after self.old.max text
+            → result ≡ Err LineFault.Mem
+            → (more : List Slip) × AreFurther self.old.max text piece.now more
+            × GrowsByFront (map slip out.old.items) (map slip out.new.items) more }
+        ensures keeps { result ≡ Err LineFault.Mem → self.new.fault ≡ Some LineFault.Mem }
+    {
+        let mut rest = piece;
+        while let Some((front, more)) = split_once(rest, b'\n') {
+            self.end_line(front, out)?;
+            rest = more;
+        }
+        self.keep(rest)
+    }
+
+    /// Ends the line in progress by these bytes, and takes it.
+    fn end_line(&mut self, front: &[u8], out: &mut Vec<Block>) -> Result<(), LineFault>
+        ensures answer { (tail : List ℕ) → self.old.partial ≡ kept tail → UnlessMem result
+            (Answers result (fault_of (line_says self.old (tail ++ front.now)))) }
+        ensures state { (tail : List ℕ) → self.old.partial ≡ kept tail → UnlessMem result
+            (self.new ≡ with_line (line_says self.old (tail ++ front.now)) self.old) }
+        ensures grows { (tail : List ℕ) → self.old.partial ≡ kept tail → UnlessMem result
+            (GrowsBy (map slip out.old.items) (map slip out.new.items)
+            (slips_of (line_says self.old (tail ++ front.now)))) }
+        ensures memory { result ≡ Err LineFault.Mem
+            → (self.new.fault ≡ Some LineFault.Mem) × (out.new.items ≡ out.old.items) }
+    {
+        if self.partial.is_empty() && !self.passes {
+            return self.take_line(without_cr(front), out);
+        }
+        self.keep(front)?;
+        self.take_kept(out)
+    }
+
+    /// Takes the line in progress, which is whole.
+    fn take_kept(&mut self, out: &mut Vec<Block>) -> Result<(), LineFault>
+        ensures answer { (tail : List ℕ) → self.old.partial ≡ kept tail → UnlessMem result
+            (Answers result (fault_of (line_says self.old tail))) }
+        ensures state { (tail : List ℕ) → self.old.partial ≡ kept tail → UnlessMem result
+            (self.new ≡ with_line (line_says self.old tail) self.old) }
+        ensures grows { (tail : List ℕ) → self.old.partial ≡ kept tail → UnlessMem result
+            (GrowsBy (map slip out.old.items) (map slip out.new.items)
+            (slips_of (line_says self.old tail))) }
+        ensures memory { result ≡ Err LineFault.Mem
+            → (self.new.fault ≡ Some LineFault.Mem) × (out.new.items ≡ out.old.items) }
+    {
+        if self.passes {
+            // A line that is passed over says as little as an empty one.
+            return self.take_line(b"".as_slice(), out);
+        }
+        let line = mem::replace(&mut self.partial, Vec::new(self.alloc));
+        let taken = self.take_line(without_cr(line.as_slice()), out);
+        self.partial = line;
+        self.partial.clear();
+        taken
+    }
+
+    /// Takes a line, without its LF and the CR before it, and begins the next.
     fn take_line(&mut self, line: &[u8], out: &mut Vec<Block>) -> Result<(), LineFault>
-        requires { self.old.lines + 1 < 2 ^ 64 }
         ensures answer { UnlessMem result (Answers result
-            (fault_of (says self.old.max (self.old.lines + 1) self.old.kind line.now))) }
+            (fault_of (says self.old.max (line_after self.old.lines) self.old.kind line.now))) }
         ensures state { UnlessMem result (self.new ≡ with_line
-            (says self.old.max (self.old.lines + 1) self.old.kind line.now) self.old) }
+            (says self.old.max (line_after self.old.lines) self.old.kind line.now) self.old) }
         ensures grows { UnlessMem result (GrowsBy (map slip out.old.items) (map slip out.new.items)
-            (slips_of (says self.old.max (self.old.lines + 1) self.old.kind line.now))) }
-        ensures memory { result ≡ Err LineFault.Mem → out.new.items ≡ out.old.items }
+            (slips_of (says self.old.max (line_after self.old.lines) self.old.kind line.now))) }
+        ensures memory { result ≡ Err LineFault.Mem
+            → (self.new.fault ≡ Some LineFault.Mem) × (out.new.items ≡ out.old.items) }
     {
         let taken = self.read_line(line, out);
+        self.partial.clear();
+        self.passes = false;
         match taken {
-            Ok(()) => self.lines += 1,
+            Ok(()) => self.lines = next_line(self.lines),
             Err(fault) => self.fault = Some(fault),
         }
         taken
@@ -112,21 +213,20 @@ impl LineReader {
 
     /// Reads what a line says, and appends the block that it brings.
     fn read_line(&mut self, line: &[u8], out: &mut Vec<Block>) -> Result<(), LineFault>
-        requires { self.old.lines + 1 < 2 ^ 64 }
         ensures answer { UnlessMem result (Answers result
-            (fault_of (says self.old.max (self.old.lines + 1) self.old.kind line.now))) }
+            (fault_of (says self.old.max (line_after self.old.lines) self.old.kind line.now))) }
         ensures state { UnlessMem result (self.new ≡ record self.old {
           kind = kind_after
-              (says self.old.max (self.old.lines + 1) self.old.kind line.now) self.old.kind;
+              (says self.old.max (line_after self.old.lines) self.old.kind line.now) self.old.kind;
         }) }
         ensures grows { UnlessMem result (GrowsBy (map slip out.old.items) (map slip out.new.items)
-            (slips_of (says self.old.max (self.old.lines + 1) self.old.kind line.now))) }
+            (slips_of (says self.old.max (line_after self.old.lines) self.old.kind line.now))) }
         ensures memory { result ≡ Err LineFault.Mem → out.new.items ≡ out.old.items }
     {
         let Some(text) = line.strip_prefix(b"FIRE ".as_slice()) else {
             return Ok(());
         };
-        let number = self.lines + 1;
+        let number = next_line(self.lines);
         if line.len() > self.max {
             return Err(LineFault::TooLong { line: number });
         }
@@ -180,20 +280,50 @@ impl LineReader {
         Ok(())
     }
 
-    /// Takes what follows the last LF, which is no line, and yet bad where it is too long.
-    fn take_tail(&mut self, tail: &[u8]) -> Result<(), LineFault>
-        requires { self.old.lines + 1 < 2 ^ 64 }
-        ensures answer { Answers result (tail_fault self.old.max self.old.lines tail.now) }
-        ensures state { self.new
-            ≡ with_fault (tail_fault self.old.max self.old.lines tail.now) self.old }
+    /// Goes on with the line in progress, which doesn't end yet, and yet is bad where it is too long.
+    fn keep(&mut self, bytes: &[u8]) -> Result<(), LineFault>
+        ensures answer { (tail : List ℕ) → self.old.partial ≡ kept tail → UnlessMem result
+            (Answers result
+            (tail_fault self.old.max self.old.lines (cut_cr (tail ++ bytes.now)))) }
+        ensures state { (tail : List ℕ) → self.old.partial ≡ kept tail → UnlessMem result
+            (self.new ≡ with_tail (tail ++ bytes.now) self.old) }
+        ensures memory { result ≡ Err LineFault.Mem → self.new.fault ≡ Some LineFault.Mem }
     {
-        if tail.starts_with(b"FIRE ".as_slice()) && tail.len() > self.max {
-            let fault = LineFault::TooLong {
-                line: self.lines + 1,
-            };
-            self.fault = Some(fault);
-            return Err(fault);
+        if self.passes {
+            return Ok(());
         }
-        Ok(())
+        if !goes_on(self.partial.as_slice(), bytes) {
+            self.passes = true;
+            self.partial.clear();
+            return Ok(());
+        }
+        if is_long(self.max, self.partial.as_slice(), bytes) {
+            return self.stop(LineFault::TooLong {
+                line: next_line(self.lines),
+            });
+        }
+        match self.partial.extend_from_slice(bytes) {
+            Ok(()) => Ok(()),
+            Err(_) => self.stop(LineFault::Mem),
+        }
     }
+
+    /// Stops at the fault.
+    fn stop(&mut self, fault: LineFault) -> Result<(), LineFault>
+        ensures answer { result ≡ Err fault }
+        ensures state { self.new ≡ record self.old { fault = Some fault; partial = Some [] } }
+    {
+        self.fault = Some(fault);
+        self.partial.clear();
+        self.passes = false;
+        Err(fault)
+    }
+}
+
+/// The number of lines after one more.
+#[tactic(auto, unfolding(crate::specs::Text::next_line))]
+fn next_line(lines: u64) -> u64
+    ensures { result ≡ line_after lines }
+{
+    lines.saturating_add(1)
 }

@@ -1,4 +1,7 @@
+ghost use Rattle.std.specs.Prelude.{◌<◌};
+
 use crate::faults::LineFault;
+use crate::print::{print_block, print_init};
 use crate::reader::LineReader;
 use block_record::{Block, Kind, Version};
 use std::alloc::{AllocError, Global};
@@ -41,16 +44,23 @@ fn blocks_text(alloc: Global, blocks: &[Block]) -> Result<String, AllocError> {
     Ok(text)
 }
 
-fn check(
+/// Feeds a text in pieces of so many bytes.
+fn check_pieces(
     rt: &impl Abort,
     alloc: Global,
     max: usize,
     text: &str,
+    bytes: usize,
     expected: &Outcome,
-) -> Result<(), Fail> {
+) -> Result<(), Fail>
+    requires { 0 < bytes }
+{
     let mut reader = LineReader::new(alloc, max);
     let mut blocks = Vec::new(alloc);
-    let answer = reader.feed(text.as_bytes(), &mut blocks);
+    let mut answer = Ok(());
+    for piece in text.as_bytes().chunks(bytes) {
+        answer = reader.feed(piece, &mut blocks);
+    }
     let (kind, ids, lines, fault) = *expected;
     assert_eq!(rt;
         kind_text(alloc, reader.kind())?.as_str(),
@@ -65,6 +75,19 @@ fn check(
     assert_eq!(rt; reader.lines(), lines, "lines of {text:?}");
     assert_eq!(rt; answer.err(), fault, "fault of {text:?}");
     Ok(())
+}
+
+/// Feeds a text whole, and in pieces of one and of three bytes.
+fn check(
+    rt: &impl Abort,
+    alloc: Global,
+    max: usize,
+    text: &str,
+    expected: &Outcome,
+) -> Result<(), Fail> {
+    check_pieces(rt, alloc, max, text, 1, expected)?;
+    check_pieces(rt, alloc, max, text, 3, expected)?;
+    check_pieces(rt, alloc, max, text, 1000, expected)
 }
 
 const RUNS: [(&str, Outcome); 24] = [
@@ -264,5 +287,67 @@ fn a_payload_is_decoded_and_hashed(rt: HostRuntime) -> Result<(), Fail> {
     assert_eq!(rt; block.payload.as_bytes(), b"abc".as_slice());
     // FIPS 180-2, appendix B.1
     assert_eq!(rt; &block.digest[..4], [0xba, 0x78, 0x16, 0xbf].as_slice());
+    Ok(())
+}
+
+#[test]
+fn a_fault_stands_until_the_run_ends(rt: HostRuntime) -> Result<(), Fail> {
+    let mut reader = LineReader::new(rt.alloc(), 10);
+    let mut blocks = Vec::new(rt.alloc());
+    let long = Err(LineFault::TooLong { line: 1 });
+    assert_eq!(rt; reader.feed(b"FIRE 01234".as_slice(), &mut blocks), Ok(()));
+    assert_eq!(rt; reader.feed(b"56".as_slice(), &mut blocks), long);
+    assert_eq!(rt; reader.feed(b"\nFIRE 0\n".as_slice(), &mut blocks), long);
+    assert_eq!(rt; reader.lines(), 0);
+    reader.end();
+    assert_eq!(rt;
+        reader.feed(b"FIRE 01234\r".as_slice(), &mut blocks),
+        Ok(())
+    );
+    assert_eq!(rt;
+        reader.feed(b"\nFIRE 012345".as_slice(), &mut blocks),
+        Err(LineFault::TooLong { line: 2 })
+    );
+    assert_eq!(rt; blocks.len(), 0);
+    Ok(())
+}
+
+/// Texts, and the lines that are printed of what they say.
+const PRINTED: [(&str, &str); 2] = [
+    (
+        "a log\nFIRE INIT 1.0 sf.t and more\r\nFIRE BLOCK 7 a7 6 a6 5 1700000000000000000 YWJj\r\n\nFIRE BLOCK 18446744073709551615 Z_9 0 b 18446744073709551615 0 \n",
+        "FIRE INIT 1.0 sf.t\nFIRE BLOCK 7 a7 6 a6 5 1700000000000000000 YWJj\nFIRE BLOCK 18446744073709551615 Z_9 0 b 18446744073709551615 0 \n",
+    ),
+    (
+        "FIRE INIT 3.0 t\nFIRE LOG\nFIRE BLOCK 0 r 0 x 0 1 AQ==\nFIRE BLOCK 10 s 0 r 3 2 +/8=\nFIRE",
+        "FIRE INIT 3.0 t\nFIRE BLOCK 0 r 0 x 0 1 AQ==\nFIRE BLOCK 10 s 0 r 3 2 +/8=\n",
+    ),
+];
+
+/// Feeds a text, and prints what it says.
+fn reprint(rt: &impl Abort, alloc: Global, text: &[u8]) -> Result<Vec<u8>, Fail> {
+    let mut reader = LineReader::new(alloc, BYTES_MAX);
+    let mut blocks = Vec::new(alloc);
+    assert_eq!(rt; reader.feed(text, &mut blocks), Ok(()));
+    let mut printed = Vec::new(alloc);
+    if let Some(kind) = reader.kind() {
+        let line = print_init(alloc, kind)?;
+        printed.extend_from_slice(line.as_slice())?;
+    }
+    for block in &blocks {
+        let line = print_block(alloc, block)?;
+        printed.extend_from_slice(line.as_slice())?;
+    }
+    Ok(printed)
+}
+
+#[test]
+fn a_run_is_printed_and_read_again(rt: HostRuntime) -> Result<(), Fail> {
+    for (text, expected) in PRINTED {
+        let printed = reprint(&rt, rt.alloc(), text.as_bytes())?;
+        assert_eq!(rt; printed.as_slice(), expected.as_bytes());
+        let again = reprint(&rt, rt.alloc(), printed.as_slice())?;
+        assert_eq!(rt; again.as_slice(), expected.as_bytes());
+    }
     Ok(())
 }

@@ -1,7 +1,8 @@
 //! Lines and words, cut from a text.
 
-ghost use Rattle.std.specs.Prelude.{◌≡◌, ◌<◌, IfSome, length, drop, slice_get};
+ghost use Rattle.std.specs.Prelude.{◌≡◌, ◌<◌, ◌++◌, IfSome, IsTrue, length, drop, slice_get};
 ghost use Rattle.std.specs.Option.{option_copied};
+ghost use Rattle.fire_lines.specs.Line.{may_be_fire, is_too_long};
 ghost use Rattle.fire_lines.specs.Parts.{SplitsFirst, words, words_left, without_cr as cut_cr};
 
 use memchr::memchr;
@@ -55,5 +56,41 @@ impl<'a> Words<'a> {
                 Some(text)
             }
         }
+    }
+}
+
+/// Whether a line that begins with these bytes, which may be for the reader, may still be with the
+/// further bytes.
+pub fn goes_on(kept: &[u8], bytes: &[u8]) -> bool
+    requires { IsTrue (may_be_fire kept.now) }
+    ensures { result ≡ may_be_fire (kept.now ++ bytes.now) }
+{
+    let fire = b"FIRE ".as_slice();
+    if kept.len() >= fire.len() {
+        return true;
+    }
+    let wanted = &fire[kept.len()..];
+    let count = wanted.len().min(bytes.len());
+    bytes[..count] == wanted[..count]
+}
+
+/// Whether the line of these bytes, which may be for the reader, is for the reader and has more
+/// bytes than the limit, a last CR not counted.
+pub fn is_long(max: usize, kept: &[u8], bytes: &[u8]) -> bool
+    requires { IsTrue (may_be_fire (kept.now ++ bytes.now)) }
+    ensures { result ≡ is_too_long max (cut_cr (kept.now ++ bytes.now)) }
+{
+    let count = count_without_cr(kept, bytes);
+    count >= 5 && count > max
+}
+
+/// How many bytes the two have together, without the one CR at their end, where there is one.
+fn count_without_cr(kept: &[u8], bytes: &[u8]) -> usize
+    ensures { result ≡ length (cut_cr (kept.now ++ bytes.now)) }
+{
+    if bytes.is_empty() {
+        without_cr(kept).len()
+    } else {
+        kept.len() + without_cr(bytes).len()
     }
 }

@@ -1,6 +1,6 @@
 -- One more block of a run.
-use Rattle.std.proofs.Common.{◌≡◌, ◌<◌, ◌+◌, ◌++◌, ◌⊎◌, inl, inr, ℕ, List, [], ◌∷◌, None, map, drop, get_or, length, reverse, refl, sym, ◌∙◌, ap, subst, append_assoc}
-use Rattle.std.proofs.lemmas.List.{reverse-append, drop_more}
+use Rattle.std.proofs.Common.{◌≡◌, ◌<◌, ◌+◌, ◌++◌, ◌⊎◌, inl, inr, ℕ, List, [], ◌∷◌, None, Some, map, drop, get_or, length, reverse, refl, sym, ◌∙◌, ap, subst, append_assoc}
+use Rattle.std.proofs.lemmas.List.{append-nil, reverse-append, drop_more}
 use Rattle.block_record.specs.declared.blocks.Slip.{Slip}
 use Rattle.block_record.specs.declared.blocks.Block.{Block}
 use Rattle.block_record.specs.Slips.{slip}
@@ -10,7 +10,9 @@ use Rattle.chain_model.specs.declared.places.Mode.TheVariants as mode
 use Rattle.chain_model.specs.Steps.{steps_of, plain_of}
 use Rattle.chain_model.specs.Places.{place_to}
 use Rattle.fire_tool.specs.declared.offers.Verdict.{Verdict}
-use Rattle.fire_tool.specs.declared.offers.Verdict.TheVariants.{Admitted, Duplicate}
+use Rattle.fire_tool.specs.declared.offers.Verdict.TheVariants.{Admitted, Duplicate, Contradicts}
+use Rattle.fire_tool.specs.declared.offers.Conflict.{Conflict}
+use Rattle.fire_tool.specs.declared.offers.Refusal.TheVariants as refused
 use Rattle.fire_tool.specs.Offers.{judge}
 use Rattle.fire_tool.specs.StepText.{Told, step_lines, prepend, tell, tell_answer}
 use Rattle.fire_tool.specs.Taken.{Grown, Unchanged, IsTaken}
@@ -58,10 +60,25 @@ one_told v s slips old new from to before after (inr is) judged t =
     stayed ss h h' p p' b a eh ep ea = rw (eh, ep, ea) refl
 
 -- one more block of the list
-pub tell_more : (v : Verdict) (blocks : List Block) (i : ℕ) (b : Block) (old new : List Slip) (from to : Place) (before after : List ℕ) (all : Told)
+pub tell_more : (v : Verdict) (blocks : List Block) (later : List Slip) (i : ℕ) (b : Block) (old new : List Slip) (from to : Place) (before after : List ℕ) (all : Told)
     → i < length blocks → b ≡ get_or blocks i b → (v ≡ Admitted) ⊎ (v ≡ Duplicate) → v ≡ judge (reverse old) (slip b) → IsTaken v (slip b) old new from to before after
-    → prepend before (tell (map slip (drop i blocks)) (reverse old) from) ≡ all → prepend after (tell (map slip (drop (i + 1) blocks)) (reverse new) to) ≡ all
-tell_more v blocks i b old new from to before after all lt read either judged t h =
+    → prepend before (tell (map slip (drop i blocks) ++ later) (reverse old) from) ≡ all → prepend after (tell (map slip (drop (i + 1) blocks) ++ later) (reverse new) to) ≡ all
+tell_more v blocks later i b old new from to before after all lt read either judged t h =
     let next : drop i blocks ≡ b ∷ drop (i + 1) blocks = drop_more blocks i b lt ∙ ap (λ x. x ∷ drop (i + 1) blocks) (sym read) in
-    sym (one_told v (slip b) (map slip (drop (i + 1) blocks)) old new from to before after either judged t)
-    ∙ (ap (λ l. prepend before (tell (map slip l) (reverse old) from)) (sym next) ∙ h)
+    sym (one_told v (slip b) (map slip (drop (i + 1) blocks) ++ later) old new from to before after either judged t)
+    ∙ (ap (λ l. prepend before (tell (map slip l ++ later) (reverse old) from)) (sym next) ∙ h)
+
+-- a block that contradicts ends what is told
+pub contradicted : (c : Conflict) (v : Verdict) (blocks : List Block) (later : List Slip) (i : ℕ) (b : Block) (old new : List Slip) (from to : Place) (before after : List ℕ) (all : Told)
+    → i < length blocks → b ≡ get_or blocks i b → v ≡ Contradicts c → v ≡ judge (reverse old) (slip b) → IsTaken v (slip b) old new from to before after
+    → prepend before (tell (map slip (drop i blocks) ++ later) (reverse old) from) ≡ all → all ≡ record { text = after; refusal = Some (refused.Contradicts c) }
+contradicted c v blocks later i b old new from to before after all lt read is judged t h =
+    let next : drop i blocks ≡ b ∷ drop (i + 1) blocks = drop_more blocks i b lt ∙ ap (λ x. x ∷ drop (i + 1) blocks) (sym read) in
+    let g : Unchanged old new from to before after = subst (λ (w : Verdict). IsTaken w (slip b) old new from to before after) is t in
+    let s = slip b in
+    let slips = map slip (drop (i + 1) blocks) ++ later in
+    let steps = step_lines (map plain_of (steps_of (s ∷ reverse old) from mode.Live None)) in
+    let further = place_to (s ∷ reverse old) from mode.Live None in
+    let ended : prepend before (tell (s ∷ slips) (reverse old) from) ≡ record { text = before ++ []; refusal = Some (refused.Contradicts c) } =
+    ap (λ w. prepend before (tell_answer w s steps (tell slips (s ∷ reverse old) further) (tell slips (reverse old) from))) (sym judged ∙ is) in
+    sym h ∙ (ap (λ l. prepend before (tell (map slip l ++ later) (reverse old) from)) next ∙ (ended ∙ rw (append-nil before, g.text) refl))

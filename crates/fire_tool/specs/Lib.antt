@@ -2,4 +2,6 @@ pub mod Offers
 pub mod StepText
 pub mod ErrorLines
 pub mod Taken
+pub mod Telling
 pub mod Runs
+pub mod Pieces

@@ -1,5 +1,5 @@
 -- What a run of the program has done, by its status.
-use Rattle.std.specs.Prelude.{ℕ, ◌≡◌, ◌≢◌, ◌≤◌, ◌^◌, ◌⊎◌, Bool, false, List, [], ◌∷◌, length, MatchBool, Option, codes}
+use Rattle.std.specs.Prelude.{ℕ, ◌≡◌, ◌≢◌, ◌≤◌, ◌^◌, ◌⊎◌, Bool, false, List, [], ◌∷◌, ◌++◌, length, MatchBool, Option, codes}
 use Rattle.std.specs.Str.{bytes_eq}
 use Rattle.std.specs.Io.KnownBytes.{IsAtEnd}
 use Rattle.outer_world.specs.Causes.{Rose}
@@ -43,46 +43,47 @@ abbrev pub ToldError : Streams → Streams → List ℕ → Type 0
 ToldError before after line = Grows before.errors after.errors line
     ⊎ (Rose before.error_faults after.error_faults × GrowsByFront before.errors after.errors line)
 
--- the statuses of a run that read its whole input and wrote its whole step text
+-- the statuses of a run that wrote its whole step text
 abbrev pub IsAnswer : ℕ → Type 0
 IsAnswer status = (status ≡ 0) ⊎ (status ≡ 5) ⊎ (status ≡ 6) ⊎ (status ≡ 12)
 
--- the input was read to its end, its step text stands written, and the status and the line name what ended it
+-- the step text of the bytes taken stands written, and the status and the line name what ended it. At 0 the input was read to its end; at another
+-- status the step text is the same whatever the input goes on with
 pub record Answered (before after : Flow) (line : List ℕ) (status : ℕ) : Type 0 where
   pub input : List ℕ
   pub took : TookInput before after input
-  pub at_end : IsAtEnd after.left
   pub text : Grows before.written after.written (step_text input).text
   pub status_is : status ≡ ending_status (step_text input).ending
   pub line_is : line ≡ ending_line (step_text input).ending
+  pub at_end : status ≡ 0 → IsAtEnd after.left
+  pub ended : status ≢ 0 → (rest : List ℕ) → step_text (input ++ rest) ≡ step_text input
 
--- there was no memory: some of the input may have been taken, and nothing was written
+-- there was no memory: a front of the step text of the bytes taken stands written
 pub record RanOut (before after : Flow) : Type 0 where
   pub input : List ℕ
   pub took : TookInput before after input
-  pub text : WroteNothing before after
+  pub text : GrowsByFront before.written after.written (step_text input).text
 
--- a read failed before the end of the input, and nothing was written
+-- a read failed, and the step text of the bytes taken stands written
 pub record ReadFailed (before after : Flow) : Type 0 where
   pub input : List ℕ
   pub took : TookInput before after input
   pub cause : Rose before.read_faults after.read_faults
-  pub text : WroteNothing before after
+  pub text : Grows before.written after.written (step_text input).text
 
--- the input was read to its end, and a write failed: a front of the step text stands written
+-- a write failed, and a front of the step text of the bytes taken stands written
 pub record WriteFailed (before after : Flow) : Type 0 where
   pub input : List ℕ
   pub took : TookInput before after input
-  pub at_end : IsAtEnd after.left
   pub cause : Rose before.write_faults after.write_faults
   pub text : GrowsByFront before.written after.written (step_text input).text
 
--- so many bytes were taken that no end was waited for, and nothing was written
+-- so many bytes were taken that no end was waited for, and their step text stands written
 pub record TookTooMuch (before after : Flow) : Type 0 where
   pub input : List ℕ
   pub took : TookInput before after input
   pub cause : 2 ^ 40 ≤ length input
-  pub text : WroteNothing before after
+  pub text : Grows before.written after.written (step_text input).text
 
 -- the input and the output were not touched
 pub record Untouched (before after : Flow) : Type 0 where

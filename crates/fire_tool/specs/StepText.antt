@@ -60,13 +60,13 @@ tell (s ∷ slips) newest place = tell_answer (judge newest s) s
 -- what ended a text: its end, a bad line, or a refusal
 pub data Ending : Type 0 where
   whole : Ending
-  bad_line : Ending
+  bad_line : LineFault → Ending
   refusal : Refusal → Ending
 
 -- a refusal comes before a bad line, which stands after the blocks
 abbrev pub ending_of : Option Refusal → Option LineFault → Ending
 ending_of (Some r) fault = refusal r
-ending_of None (Some f) = bad_line
+ending_of None (Some f) = bad_line f
 ending_of None None = whole
 
 -- the text of the steps of an input, and what ended it

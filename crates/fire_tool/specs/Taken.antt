@@ -1,5 +1,5 @@
 -- What an offered block changes.
-use Rattle.std.specs.Prelude.{ℕ, ◌≡◌, List, [], ◌∷◌, ◌++◌, map, reverse, None}
+use Rattle.std.specs.Prelude.{ℕ, ◌≡◌, List, [], ◌∷◌, ◌++◌, map, reverse, Option, None, Some}
 use Rattle.block_record.specs.declared.blocks.Slip.{Slip}
 use Rattle.chain_model.specs.declared.places.Place.{Place}
 use Rattle.chain_model.specs.declared.places.Mode.TheVariants as mode
@@ -7,7 +7,8 @@ use Rattle.chain_model.specs.Steps.{steps_of, plain_of}
 use Rattle.chain_model.specs.Places.{place_to}
 use Rattle.fire_tool.specs.declared.offers.Verdict.{Verdict}
 use Rattle.fire_tool.specs.declared.offers.Verdict.TheVariants.{Admitted, Duplicate, Unlinked, Contradicts}
-use Rattle.fire_tool.specs.StepText.{step_lines}
+use Rattle.fire_tool.specs.declared.offers.Refusal.{Refusal}
+use Rattle.fire_tool.specs.StepText.{Told, step_lines, tell, prepend}
 
 -- the block was admitted and its steps were told: a history in order, the client's place and the text, before and after
 pub record Grown (s : Slip) (old new : List Slip) (from to : Place) (before after : List ℕ) : Type 0 where
@@ -27,3 +28,8 @@ IsTaken Admitted s old new from to before after = Grown s old new from to before
 IsTaken Duplicate s old new from to before after = Unchanged old new from to before after
 IsTaken Unlinked s old new from to before after = Unchanged old new from to before after
 IsTaken (Contradicts c) s old new from to before after = Unchanged old new from to before after
+
+-- all that is told, where these blocks come last: this text was told and they follow from this history and place, or a refusal ended it
+abbrev pub Tells : Told → List Slip → Option Refusal → List ℕ → List Slip → Place → Type 0
+Tells all more None text newest place = all ≡ prepend text (tell more newest place)
+Tells all more (Some r) text newest place = all ≡ record { text = text; refusal = Some r }

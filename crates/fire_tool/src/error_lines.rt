@@ -1,10 +1,13 @@
 //! The lines that name what ended a run.
 
 ghost use Rattle.std.specs.Prelude.{◌≡◌, ◌++◌, IfOk, OnOk};
-ghost use Rattle.fire_tool.specs.ErrorLines.{named, kind_word, refusal_line, refusal_status};
+ghost use Rattle.fire_tool.specs.ErrorLines.{named, kind_word, refusal_line, fault_words, fault_place, fault_field, fault_line, ending_line, ending_status, IsEndStatus};
+ghost use Rattle.fire_tool.specs.Telling.{ending_seen};
 
 use crate::offers::{Conflict, ConflictKind, Refusal};
+use crate::progress::RunEnd;
 use block_record::Id;
+use fire_lines::LineFault;
 use itoa::Buffer;
 use std::alloc::{AllocError, Global};
 
@@ -45,7 +48,7 @@ fn conflict_line(alloc: Global, conflict: &Conflict) -> Result<Vec<u8>, AllocErr
 }
 
 /// The line of a refusal.
-pub fn line_of_refusal(alloc: Global, refusal: &Refusal) -> Result<Vec<u8>, AllocError>
+fn line_of_refusal(alloc: Global, refusal: &Refusal) -> Result<Vec<u8>, AllocError>
     ensures { IfOk result (λ line. line.items ≡ refusal_line refusal.now) }
 {
     match refusal {
@@ -62,12 +65,83 @@ pub fn line_of_refusal(alloc: Global, refusal: &Refusal) -> Result<Vec<u8>, Allo
     }
 }
 
-/// The status of a refusal.
-pub fn status_of_refusal(refusal: &Refusal) -> u8
-    ensures { result ≡ refusal_status refusal.now }
+/// What is wrong with a line, without its place.
+fn words_of_fault(fault: LineFault) -> &'static [u8]
+    ensures { result.now ≡ fault_words fault }
 {
-    match refusal {
-        Refusal::Unlinked(_) => 12,
-        Refusal::Contradicts(_) => 6,
+    match fault {
+        LineFault::TooLong { .. } => b"too long",
+        LineFault::BadInit { .. } => b"bad init",
+        LineFault::InitChanged { .. } => b"init changed",
+        LineFault::NoInit { .. } => b"no init",
+        LineFault::BadField { .. } => b"bad field ",
+        LineFault::Mem => b"no memory",
+    }
+}
+
+/// The number of the bad line, from 1.
+fn number_of_line(fault: LineFault) -> u64
+    ensures { result ≡ fault_place fault }
+{
+    match fault {
+        LineFault::TooLong { line }
+        | LineFault::BadInit { line }
+        | LineFault::InitChanged { line }
+        | LineFault::NoInit { line }
+        | LineFault::BadField { line, .. } => line,
+        LineFault::Mem => 0,
+    }
+}
+
+/// The line of a bad line.
+fn line_of_fault(alloc: Global, fault: LineFault) -> Result<Vec<u8>, AllocError>
+    ensures { IfOk result (λ line. line.items ≡ fault_line fault) }
+{
+    let mut digits = Buffer::new();
+    let mut line = Vec::from_slice(alloc, b"fire: line ")?;
+    line.extend_from_slice(digits.format(number_of_line(fault)).as_bytes())?;
+    line.extend_from_slice(b": ")?;
+    line.extend_from_slice(words_of_fault(fault))?;
+    push_field(fault, &mut line)?;
+    line.push(b'\n')?;
+    Ok(line)
+}
+
+/// Appends the number of a bad field.
+fn push_field(fault: LineFault, line: &mut Vec<u8>) -> Result<(), AllocError>
+    ensures { OnOk result (line.new.items ≡ line.old.items ++ fault_field fault) }
+{
+    if let LineFault::BadField { field, .. } = fault {
+        let mut digits = Buffer::new();
+        line.extend_from_slice(digits.format(field).as_bytes())?;
+    }
+    Ok(())
+}
+
+/// The line of what ended a run.
+pub fn line_of_end(alloc: Global, end: &RunEnd) -> Result<Vec<u8>, AllocError>
+    ensures { IfOk result (λ line. line.items ≡ ending_line (ending_seen end.now)) }
+{
+    match end {
+        RunEnd::BadLine(fault) => {
+            let line = line_of_fault(alloc, *fault)?;
+            Ok(line)
+        }
+        RunEnd::Refused(refusal) => {
+            let line = line_of_refusal(alloc, refusal)?;
+            Ok(line)
+        }
+    }
+}
+
+/// The status of what ended a run.
+pub fn status_of_end(end: &RunEnd) -> u8
+    ensures value { result ≡ ending_status (ending_seen end.now) }
+    ensures known { IsEndStatus result }
+{
+    match end {
+        RunEnd::BadLine(_) => 5,
+        RunEnd::Refused(Refusal::Unlinked(_)) => 12,
+        RunEnd::Refused(Refusal::Contradicts(_)) => 6,
     }
 }

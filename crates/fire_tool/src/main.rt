@@ -3,6 +3,7 @@
 
 mod error_lines;
 mod offers;
+mod progress;
 mod run;
 mod steps;
 mod streams;

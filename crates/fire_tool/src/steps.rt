@@ -1,56 +1,16 @@
 //! The command that prints the steps of a node's lines.
 
-ghost use Rattle.std.specs.Prelude.{◌≡◌, IfOk, MatchResult};
-ghost use Rattle.fire_tool.specs.StepText.{step_text};
-ghost use Rattle.fire_tool.specs.ErrorLines.{ending_line, ending_status};
+ghost use Rattle.std.specs.Prelude.{◌≡◌, ◌++◌, ◌≤◌, ℕ, List, Option, IfOk, IfErr, MatchResult};
+ghost use Rattle.outer_world.specs.Told.{Grows};
+ghost use Rattle.fire_tool.specs.ErrorLines.{ending_line, ending_status, IsEndStatus};
+ghost use Rattle.fire_tool.specs.Pieces.{PieceTaken};
 ghost use Rattle.fire_tool.specs.Runs.{IsAnswer, Answered, Stopped, flow, stop_line, stop_status};
+ghost use Rattle.fire_tool.specs.Telling.{IsUnderWay, ending_seen};
 
-use crate::error_lines::{line_of_refusal, status_of_refusal};
-use crate::telling::tell_blocks;
-use fire_lines::{LineFault, LineReader};
-use outer_world::{ReadStop, Sink, Source, read_whole, write_whole};
-use std::alloc::{AllocError, Global};
-
-/// The most bytes of a line.
-pub const LINE_BYTES_MAX: usize = 67_108_864;
-
-/// What a run writes, and how it ends.
-#[derive(Drop)]
-pub struct Answer {
-    /// The lines of the steps.
-    pub text: Vec<u8>,
-    /// The line that names what ended the text, if anything did.
-    pub error: Vec<u8>,
-    pub status: u8,
-}
-
-/// The steps of a whole input.
-pub fn answer_to(alloc: Global, input: &[u8]) -> Result<Answer, AllocError>
-    ensures text { IfOk result (λ a. a.text.items ≡ (step_text input.now).text) }
-    ensures error { IfOk result (λ a. a.error.items ≡ ending_line (step_text input.now).ending) }
-    ensures status { IfOk result (λ a. a.status ≡ ending_status (step_text input.now).ending) }
-    ensures known { IfOk result (λ a. IsAnswer a.status) }
-{
-    let mut blocks = Vec::new(alloc);
-    let mut reader = LineReader::new(alloc, LINE_BYTES_MAX);
-    let bad = match reader.feed(input, &mut blocks) {
-        Ok(()) => false,
-        Err(LineFault::Mem) => return Err(AllocError),
-        Err(_) => true,
-    };
-    let mut text = Vec::new(alloc);
-    let refusal = tell_blocks(alloc, blocks.as_slice(), &mut text)?;
-    let (error, status) = match &refusal {
-        Some(refusal) => (line_of_refusal(alloc, refusal)?, status_of_refusal(refusal)),
-        None if bad => (Vec::from_slice(alloc, b"fire: bad line\n")?, 5),
-        None => (Vec::new(alloc), 0),
-    };
-    Ok(Answer {
-        text,
-        error,
-        status,
-    })
-}
+use crate::error_lines::{line_of_end, status_of_end};
+use crate::progress::{Progress, RunEnd};
+use outer_world::{Failed, Sink, Source, TEXT_BYTES_MAX, write_whole};
+use std::alloc::Global;
 
 /// How a run ended that has an answer.
 #[derive(Drop)]
@@ -99,7 +59,48 @@ impl StepsStop {
     }
 }
 
-/// Reads the whole input, and writes the steps that it brings about.
+/// Takes a piece of the input, and writes the steps that it brings about. It gives what ended the
+/// run, if the piece did.
+fn take_piece<O: Sink>(
+    alloc: Global,
+    piece: &[u8],
+    progress: &mut Progress,
+    output: &mut O,
+) -> Result<Option<RunEnd>, StepsStop>
+    ensures taken { (input told : List ℕ) (start : Option (List ℕ))
+        → IsUnderWay input told progress.old.reader progress.old.history.items progress.old.place
+        → Grows start (O.written output.old) told
+        → PieceTaken (input ++ piece.now) start (O.written output.new)
+        (O.write_faults output.old) (O.write_faults output.new)
+        progress.new.reader progress.new.history.items progress.new.place result }
+    ensures faults { O.write_faults output.old ≤ O.write_faults output.new }
+{
+    let Ok(end) = progress.take_piece(alloc, piece) else {
+        return Err(StepsStop::Mem);
+    };
+    match write_whole(output, progress.text.as_slice()) {
+        Ok(()) => Ok(end),
+        Err(_) => Err(StepsStop::Write),
+    }
+}
+
+/// The line and the status of what ended a run.
+fn ended_by(alloc: Global, end: &RunEnd) -> Result<Ended, StepsStop>
+    ensures line { IfOk result (λ e. e.line.items ≡ ending_line (ending_seen end.now)) }
+    ensures status { IfOk result (λ e. e.status ≡ ending_status (ending_seen end.now)) }
+    ensures known { IfOk result (λ e. IsEndStatus e.status) }
+    ensures memory { IfErr result (λ stop. stop ≡ StepsStop.Mem) }
+{
+    match line_of_end(alloc, end) {
+        Ok(line) => Ok(Ended {
+            line,
+            status: status_of_end(end),
+        }),
+        Err(_) => Err(StepsStop::Mem),
+    }
+}
+
+/// Reads the input piece by piece, and writes the steps of each piece before it reads the next.
 pub fn run_steps<I: Source, O: Sink>(
     alloc: Global,
     input: &mut I,
@@ -114,20 +115,26 @@ pub fn run_steps<I: Source, O: Sink>(
         (λ e. Answered before after e.line.items e.status)
         (λ stop. Stopped stop before after) }
 {
-    let text = match read_whole(alloc, input) {
-        Ok(text) => text,
-        Err(ReadStop::Mem) => return Err(StepsStop::Mem),
-        Err(ReadStop::Fault) => return Err(StepsStop::Read),
-        Err(ReadStop::TooLong) => return Err(StepsStop::TooLong),
-    };
-    let Ok(answer) = answer_to(alloc, text.as_slice()) else {
-        return Err(StepsStop::Mem);
-    };
-    match write_whole(output, answer.text.as_slice()) {
-        Ok(()) => Ok(Ended {
-            line: answer.error,
-            status: answer.status,
-        }),
-        Err(_) => Err(StepsStop::Write),
+    let mut progress = Progress::new(alloc);
+    let mut buf = [0; 65_536];
+    let mut taken = 0;
+    while taken < TEXT_BYTES_MAX {
+        let count = match input.read(&mut buf) {
+            Ok(0) => {
+                return Ok(Ended {
+                    line: Vec::new(alloc),
+                    status: 0,
+                });
+            }
+            Ok(count) => count,
+            Err(Failed) => return Err(StepsStop::Read),
+        };
+        taken += count;
+        match take_piece(alloc, &buf[..count], &mut progress, output) {
+            Ok(None) => {}
+            Ok(Some(end)) => return ended_by(alloc, &end),
+            Err(stop) => return Err(stop),
+        }
     }
+    Err(StepsStop::TooLong)
 }

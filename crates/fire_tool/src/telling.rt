@@ -4,10 +4,9 @@ ghost use Rattle.std.specs.Prelude.{◌≡◌, ◌++◌, ◌∷◌, [], List, If
 ghost use Rattle.block_record.specs.Slips.{slip};
 ghost use Rattle.block_record.specs.declared.blocks.Slip.{Slip};
 ghost use Rattle.chain_model.specs.Steps.{ref_of};
-ghost use Rattle.chain_model.specs.Places.{no_place};
 ghost use Rattle.fire_tool.specs.Offers.{judge};
 ghost use Rattle.fire_tool.specs.StepText.{word_of, step_line, step_lines, prepend, tell};
-ghost use Rattle.fire_tool.specs.Taken.{IsTaken};
+ghost use Rattle.fire_tool.specs.Taken.{IsTaken, Tells};
 
 use crate::offers::{Refusal, Verdict, judge_last};
 use block_record::{Block, BlockRef, Slip, slip_of};
@@ -100,22 +99,22 @@ fn unlinked(block: &Block) -> Result<Refusal, AllocError>
     }))
 }
 
-/// Offers each block in order, and tells the steps, up to the first refusal.
+/// Offers each block in order to the history, and appends the steps that they bring about to a client
+/// at the place, up to the first refusal.
 pub fn tell_blocks(
     alloc: Global,
     blocks: &[Block],
+    history: &mut Vec<Slip>,
+    place: &mut Place,
     text: &mut Vec<u8>,
 ) -> Result<Option<Refusal>, AllocError>
-    ensures { IfOk result (λ refusal. record { text = text.new.items; refusal = refusal }
-        ≡ prepend text.old.items (tell (map slip blocks.now) [] no_place)) }
+    ensures { (more : List Slip) → IfOk result (λ refusal. Tells
+        (prepend text.old.items
+        (tell (map slip blocks.now ++ more) (reverse history.old.items) place.old))
+        more refusal text.new.items (reverse history.new.items) place.new) }
 {
-    let mut history = Vec::new(alloc);
-    let mut place = Place {
-        end: None,
-        lib: None,
-    };
     for block in blocks {
-        match take_block(alloc, block, &mut history, &mut place, text)? {
+        match take_block(alloc, block, history, place, text)? {
             Verdict::Admitted | Verdict::Duplicate => {}
             Verdict::Unlinked => return Ok(Some(unlinked(block)?)),
             Verdict::Contradicts(conflict) => return Ok(Some(Refusal::Contradicts(conflict))),

@@ -1,7 +1,8 @@
 use crate::run::run_plain;
-use memory_world::{MemorySink, MemorySource};
-use outer_world::{Failed, NoShelf, Sink, Source};
+use memory_world::{FailingSink, FailingSource, MemorySink, MemorySource, PiecesSource};
+use outer_world::{NoShelf, Sink, Source};
 use std::alloc::{AllocError, Global};
+use std::process::Abort;
 use std::test::Fail;
 
 #[derive(Clone, Copy)]
@@ -12,6 +13,17 @@ struct Row {
     error: &'static [u8],
     status: u8,
 }
+
+const CHAIN: Row = Row {
+    shows: "a chain whose second block becomes final",
+    input: b"FIRE INIT 3.0 test.Block\n\
+        FIRE BLOCK 1 a1 0 a0 0 0 AQ==\n\
+        FIRE BLOCK 2 b2 1 a1 1 0 AQ==\n\
+        FIRE BLOCK 3 c3 2 b2 2 0 AQ==\n",
+    output: b"newfinal 1 a1\nnew 2 b2\nfinal 2 b2\nnew 3 c3\n",
+    error: b"",
+    status: 0,
+};
 
 const ROWS: [Row; 16] = [
     Row {
@@ -29,16 +41,7 @@ const ROWS: [Row; 16] = [
         error: b"",
         status: 0,
     },
-    Row {
-        shows: "a chain whose second block becomes final",
-        input: b"FIRE INIT 3.0 test.Block\n\
-            FIRE BLOCK 1 a1 0 a0 0 0 AQ==\n\
-            FIRE BLOCK 2 b2 1 a1 1 0 AQ==\n\
-            FIRE BLOCK 3 c3 2 b2 2 0 AQ==\n",
-        output: b"newfinal 1 a1\nnew 2 b2\nfinal 2 b2\nnew 3 c3\n",
-        error: b"",
-        status: 0,
-    },
+    CHAIN,
     Row {
         shows: "a tie, which sends nothing, and then a longer branch",
         input: b"FIRE INIT 3.0 test.Block\n\
@@ -157,7 +160,7 @@ const ROWS: [Row; 16] = [
             FIRE BLOCK 007 b2 1 a1 1 0 AQ==\n\
             FIRE BLOCK 2 b2 1 a1 1 0 AQ==\n",
         output: b"newfinal 1 a1\n",
-        error: b"fire: bad line\n",
+        error: b"fire: line 3: bad field 1\n",
         status: 5,
     },
     Row {
@@ -173,39 +176,67 @@ const ROWS: [Row; 16] = [
         shows: "a block before the opening line",
         input: b"FIRE BLOCK 1 a1 0 a0 0 0 AQ==\n",
         output: b"",
-        error: b"fire: bad line\n",
+        error: b"fire: line 1: no init\n",
         status: 5,
     },
 ];
 
+/// Runs `steps`, and compares what came with the row.
+fn check<I: Source>(
+    rt: &impl Abort,
+    alloc: Global,
+    row: &Row,
+    input: &mut I,
+) -> Result<(), AllocError> {
+    let words = words_of(alloc, "steps")?;
+    let mut output = MemorySink::new(alloc, 1024)?;
+    let mut errors = MemorySink::new(alloc, 1024)?;
+    let shelf = &mut NoShelf;
+    let status = run_plain(
+        alloc,
+        words.as_slice(),
+        input,
+        &mut output,
+        &mut errors,
+        shelf,
+    );
+    assert!(rt;
+        status.code == row.status,
+        "{}: status {}",
+        row.shows,
+        status.code
+    );
+    assert!(rt;
+        output.written() == Some(row.output),
+        "{}: output",
+        row.shows
+    );
+    assert!(rt; errors.written() == Some(row.error), "{}: error", row.shows);
+    Ok(())
+}
+
 #[test]
 fn each_input_has_its_steps_and_its_end(rt: HostRuntime) -> Result<(), Fail> {
     let alloc = rt.alloc();
-    let words = [Vec::from_slice(alloc, b"steps")?];
     for row in ROWS {
         let mut input = MemorySource::new(Vec::from_slice(alloc, row.input)?);
-        let mut output = MemorySink::new(alloc, 1024)?;
-        let mut errors = MemorySink::new(alloc, 1024)?;
-        let status = run_plain(
-            alloc,
-            &words,
-            &mut input,
-            &mut output,
-            &mut errors,
-            &mut NoShelf,
-        );
-        assert!(rt;
-            status.code == row.status,
-            "{}: status {}",
-            row.shows,
-            status.code
-        );
-        assert!(rt;
-            output.written() == Some(row.output),
-            "{}: output",
-            row.shows
-        );
-        assert!(rt; errors.written() == Some(row.error), "{}: error", row.shows);
+        check(&rt, alloc, &row, &mut input)?;
+    }
+    Ok(())
+}
+
+#[test]
+fn pieces_make_no_difference(rt: HostRuntime) -> Result<(), Fail> {
+    let alloc = rt.alloc();
+    for row in ROWS {
+        for cut in 0..row.input.len() {
+            let lengths = Vec::from_slice(alloc, &[cut])?;
+            let mut input = PiecesSource::new(Vec::from_slice(alloc, row.input)?, lengths);
+            check(&rt, alloc, &row, &mut input)?;
+        }
+        let ones = vec![in alloc; 1; row.input.len()]?;
+        let mut input = PiecesSource::new(Vec::from_slice(alloc, row.input)?, ones);
+        check(&rt, alloc, &row, &mut input)?;
     }
     Ok(())
 }
@@ -247,83 +278,91 @@ fn words_of(alloc: Global, line: &str) -> Result<Vec<Vec<u8>>, AllocError> {
     Ok(words)
 }
 
-// A stream that fails at each call.
-#[derive(Drop)]
-struct Broken {
-    faults: u64,
-}
-
-impl Source for Broken {
-    ghost use Rattle.std.specs.Prelude.{None};
-
-    ghost left = { λ _. None };
-
-    ghost given = { λ _. None };
-
-    ghost read_faults = { λ s. s.faults };
-
-    fn read(&mut self, _buf: &mut [u8]) -> Result<usize, Failed> {
-        self.faults = self.faults.saturating_add(1);
-        Err(Failed)
-    }
-}
-
-impl Sink for Broken {
-    ghost use Rattle.std.specs.Prelude.{None};
-
-    ghost written = { λ _. None };
-
-    ghost write_faults = { λ s. s.faults };
-
-    fn write(&mut self, _piece: &[u8]) -> Result<usize, Failed> {
-        self.faults = self.faults.saturating_add(1);
-        Err(Failed)
+/// Whether the sink has a front of the text.
+fn has_front(sink: &MemorySink, text: &[u8]) -> bool {
+    match sink.written() {
+        Some(written) => text.starts_with(written),
+        None => false,
     }
 }
 
 #[test]
-fn each_stream_that_fails_has_its_status(rt: HostRuntime) -> Result<(), Fail> {
+fn a_failed_read_leaves_the_steps_of_what_came(rt: HostRuntime) -> Result<(), Fail> {
     let alloc = rt.alloc();
-    let words = [Vec::from_slice(alloc, b"steps")?];
-    let text = b"FIRE INIT 3.0 test.Block\nFIRE BLOCK 1 a1 0 a0 0 0 AQ==\n";
-    let mut output = MemorySink::new(alloc, 64)?;
-    let mut errors = MemorySink::new(alloc, 64)?;
-    let mut broken = Broken { faults: 0 };
-    let read = run_plain(
+    let words = words_of(alloc, "steps")?;
+    for call in 0..CHAIN.input.len() {
+        let ones = vec![in alloc; 1; CHAIN.input.len()]?;
+        let inner = PiecesSource::new(Vec::from_slice(alloc, CHAIN.input)?, ones);
+        let fails = Vec::from_slice(alloc, &[call as u64])?;
+        let mut input = FailingSource::new(inner, fails);
+        let mut output = MemorySink::new(alloc, 1024)?;
+        let mut errors = MemorySink::new(alloc, 64)?;
+        let shelf = &mut NoShelf;
+        let status = run_plain(
+            alloc,
+            words.as_slice(),
+            &mut input,
+            &mut output,
+            &mut errors,
+            shelf,
+        );
+        assert_eq!(rt; status.code, 3, "at {call}");
+        assert!(rt; has_front(&output, CHAIN.output), "at {call}");
+        assert!(rt;
+            errors.written() == Some(b"fire: read fault\n".as_slice()),
+            "at {call}"
+        );
+    }
+    Ok(())
+}
+
+#[test]
+fn a_failed_write_leaves_a_front_of_the_steps(rt: HostRuntime) -> Result<(), Fail> {
+    let alloc = rt.alloc();
+    let words = words_of(alloc, "steps")?;
+    for call in 0..3 {
+        let ones = vec![in alloc; 1; CHAIN.input.len()]?;
+        let mut input = PiecesSource::new(Vec::from_slice(alloc, CHAIN.input)?, ones);
+        let fails = Vec::from_slice(alloc, &[call])?;
+        let mut output = FailingSink::new(MemorySink::new(alloc, 1024)?, fails);
+        let mut errors = MemorySink::new(alloc, 64)?;
+        let shelf = &mut NoShelf;
+        let status = run_plain(
+            alloc,
+            words.as_slice(),
+            &mut input,
+            &mut output,
+            &mut errors,
+            shelf,
+        );
+        assert_eq!(rt; status.code, 4, "at {call}");
+        assert!(rt; has_front(output.inner(), CHAIN.output), "at {call}");
+        assert!(rt;
+            errors.written() == Some(b"fire: write fault\n".as_slice()),
+            "at {call}"
+        );
+    }
+    Ok(())
+}
+
+#[test]
+fn a_failed_error_line_changes_nothing(rt: HostRuntime) -> Result<(), Fail> {
+    let alloc = rt.alloc();
+    let words = words_of(alloc, "steps")?;
+    let mut input = MemorySource::new(Vec::from_slice(alloc, CHAIN.input)?);
+    let mut output = MemorySink::new(alloc, 1024)?;
+    let fails = Vec::from_slice(alloc, &[0])?;
+    let mut errors = FailingSink::new(MemorySink::new(alloc, 64)?, fails);
+    let shelf = &mut NoShelf;
+    let status = run_plain(
         alloc,
-        &words,
-        &mut broken,
+        words.as_slice(),
+        &mut input,
         &mut output,
         &mut errors,
-        &mut NoShelf,
+        shelf,
     );
-    assert_eq!(rt; (read.code, broken.faults), (3, 1));
-    assert!(rt; output.written() == Some([].as_slice()));
-    assert!(rt; errors.written() == Some(b"fire: read fault\n".as_slice()));
-
-    let mut input = MemorySource::new(Vec::from_slice(alloc, text)?);
-    let mut errors = MemorySink::new(alloc, 64)?;
-    let write = run_plain(
-        alloc,
-        &words,
-        &mut input,
-        &mut broken,
-        &mut errors,
-        &mut NoShelf,
-    );
-    assert_eq!(rt; (write.code, broken.faults), (4, 2));
-    assert!(rt; errors.written() == Some(b"fire: write fault\n".as_slice()));
-
-    let mut input = MemorySource::new(Vec::from_slice(alloc, text)?);
-    let told = run_plain(
-        alloc,
-        &words,
-        &mut input,
-        &mut output,
-        &mut broken,
-        &mut NoShelf,
-    );
-    assert_eq!(rt; told.code, 0);
-    assert!(rt; output.written() == Some(b"newfinal 1 a1\n".as_slice()));
+    assert_eq!(rt; status.code, 0);
+    assert!(rt; output.written() == Some(CHAIN.output));
     Ok(())
 }

@@ -1,34 +1,29 @@
-use Rattle.std.proofs.Common.{◌≢◌, ◌+◌, Err, arith, ap, ◌∙◌, Result}
-use Rattle.fire_lines.specs.declared.faults.LineFault.{LineFault}
-use Rattle.fire_lines.specs.declared.faults.LineFault.TheVariants.{Mem}
-use Rattle.fire_lines.specs.Line.{says}
-use Rattle.fire_lines.proofs.ReadFacts.{lines-with_line, reads_line, stops_reading, same_fault, answers_fault}
+use Rattle.std.proofs.Common.{◌≡◌, [], Some, sym, ap, ◌∙◌, refl}
+use Rattle.std.proofs.lemmas.List.{append-nil}
+use Rattle.fire_lines.specs.Reader.{ReaderState}
+use Rattle.fire_lines.proofs.LineFacts.{stays_stopped}
 use Rattle.fire_lines.proofs.reader.LineReader.feed.Goals as goal
 
-pub returns-in_err-take_line-clause-answer : goal.returns-in_err-take_line-clause-answer
-returns-in_err-take_line-clause-answer c = λ apart.
-    let same = same_fault c.from_residual.result c.in_err-take_line.field-0.0 c.from_residual.ensures.1 in
-    let other : (let q : Result Unit LineFault = Err c.in_err-take_line.field-0.0 in q ≢ Err Mem) = λ q. apart (same ∙ q) in
-    let bad = c.in_err-take_line.ensures in
-    let stopped = stops_reading _ c.args.piece.now _ c.loop-line.self _ _ _ c.loop-line.rest.now c.in-Some.line.now c.in-Some.more.now _ _
-    c.loop-line.invariant.reading c.in-Some.ensures.parts (ap (says c.loop-line.self.max (c.loop-line.self.lines + 1) c.loop-line.self.kind) c.without_cr.ensures) (bad.answer other) (bad.state other) (bad.grows other) in
-    answers_fault _ _ _ same stopped.1
+pub returns-in-Some-clause-further : goal.returns-in-Some-clause-further
+returns-in-Some-clause-further c = λ text is apart.
+    let bad : c.args.self.now.fault ≡ Some c.in-Some.fault = ap (λ (s : ReaderState). s.fault) (sym c.self.view_is) ∙ c.in-Some.is in
+    let stopped = stays_stopped _ text c.args.piece.now c.args.self.now c.in-Some.fault is bad in
+    ([], stopped.3, sym (append-nil _))
 
-pub returns-in_err-take_line-clause-state : goal.returns-in_err-take_line-clause-state
-returns-in_err-take_line-clause-state c = λ apart.
-    let same = same_fault c.from_residual.result c.in_err-take_line.field-0.0 c.from_residual.ensures.1 in
-    let other : (let q : Result Unit LineFault = Err c.in_err-take_line.field-0.0 in q ≢ Err Mem) = λ q. apart (same ∙ q) in
-    let bad = c.in_err-take_line.ensures in
-    let stopped = stops_reading _ c.args.piece.now _ c.loop-line.self _ _ _ c.loop-line.rest.now c.in-Some.line.now c.in-Some.more.now _ _
-    c.loop-line.invariant.reading c.in-Some.ensures.parts (ap (says c.loop-line.self.max (c.loop-line.self.lines + 1) c.loop-line.self.kind) c.without_cr.ensures) (bad.answer other) (bad.state other) (bad.grows other) in
-    stopped.0
+pub returns-in-Some-clause-answer : goal.returns-in-Some-clause-answer
+returns-in-Some-clause-answer c = λ text is apart.
+    let bad : c.args.self.now.fault ≡ Some c.in-Some.fault = ap (λ (s : ReaderState). s.fault) (sym c.self.view_is) ∙ c.in-Some.is in
+    let stopped = stays_stopped _ text c.args.piece.now c.args.self.now c.in-Some.fault is bad in
+    stopped.1
 
-pub loop-line-preserved : goal.loop-line-preserved
-loop-line-preserved c =
-    let good = c.in_ok-take_line.ensures in
-    let reading = reads_line _ c.args.piece.now _ c.loop-line.self c.take_line.new.self _ _ c.loop-line.rest.now c.in-Some.line.now c.in-Some.more.now _
-    c.loop-line.invariant.reading c.in-Some.ensures.parts (ap (says c.loop-line.self.max (c.loop-line.self.lines + 1) c.loop-line.self.kind) c.without_cr.ensures) (good.answer (λ q. cc)) (good.state (λ q. cc)) (good.grows (λ q. cc)) in
-    record {
-      reading = reading;
-      few = omega (arith, lines-with_line _ c.loop-line.self _ (good.answer (λ q. cc)) (good.state (λ q. cc)), c.in-Some.ensures.shorter);
-    }
+pub returns-in-Some-clause-state : goal.returns-in-Some-clause-state
+returns-in-Some-clause-state c = λ text is apart.
+    let bad : c.args.self.now.fault ≡ Some c.in-Some.fault = ap (λ (s : ReaderState). s.fault) (sym c.self.view_is) ∙ c.in-Some.is in
+    let stopped = stays_stopped _ text c.args.piece.now c.args.self.now c.in-Some.fault is bad in
+    stopped.2
+
+pub returns-in-Some-clause-memory : goal.returns-in-Some-clause-memory
+returns-in-Some-clause-memory c = λ text is mem.
+    let bad : c.args.self.now.fault ≡ Some c.in-Some.fault = ap (λ (s : ReaderState). s.fault) (sym c.self.view_is) ∙ c.in-Some.is in
+    let stopped = stays_stopped _ text c.args.piece.now c.args.self.now c.in-Some.fault is bad in
+    ([], stopped.3, ([], ([], refl), sym (append-nil _)))

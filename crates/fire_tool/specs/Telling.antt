@@ -1,0 +1,42 @@
+-- A run under way, and how it ends.
+use Rattle.std.specs.Prelude.{ℕ, ◌≡◌, List, [], ◌++◌, reverse, Option, None, Some}
+use Rattle.block_record.specs.declared.blocks.Slip.{Slip}
+use Rattle.chain_model.specs.declared.places.Place.{Place}
+use Rattle.chain_model.specs.Places.{no_place}
+use Rattle.fire_lines.specs.declared.faults.LineFault.{LineFault}
+use Rattle.fire_lines.specs.Reader.{ReaderState, state_after, AreFurther}
+use Rattle.fire_lines.specs.Text.{received}
+use Rattle.fire_tool.specs.declared.offers.Refusal.{Refusal}
+use Rattle.fire_tool.specs.declared.progress.RunEnd.{RunEnd}
+use Rattle.fire_tool.specs.declared.progress.RunEnd.TheVariants.{BadLine, Refused}
+use Rattle.fire_tool.specs.StepText.{Ending, bad_line, refusal, tell, prepend, line_max, step_text}
+
+-- these bytes were taken and nothing in them ended the run, and this text was told: whatever blocks come next are told from this history and this place
+pub record IsUnderWay (input told : List ℕ) (reader : ReaderState) (history : List Slip) (place : Place) : Type 0 where
+  pub read : reader ≡ state_after line_max input
+  pub sound : (received line_max input).fault ≡ None
+  pub goes_on : (more : List Slip) → tell ((received line_max input).slips ++ more) [] no_place ≡ prepend told (tell more (reverse history) place)
+
+-- these bytes ended the run so, whatever follows them, and this text was told
+pub record IsEnded (input told : List ℕ) (ending : Ending) : Type 0 where
+  pub text : step_text input ≡ record { text = told; ending = ending }
+  pub stays : (rest : List ℕ) → step_text (input ++ rest) ≡ step_text input
+
+-- what ended a run, by its refusal and the fault of its line
+abbrev pub end_for : Option Refusal → Option LineFault → Option RunEnd
+end_for (Some r) fault = Some (Refused r)
+end_for None (Some f) = Some (BadLine f)
+end_for None None = None
+
+-- what ended a text, as the program has it
+abbrev pub ending_seen : RunEnd → Ending
+ending_seen (BadLine f) = bad_line f
+ending_seen (Refused r) = refusal r
+
+-- a reader that had read the input reads a further piece: its blocks come after those that were there, and this is its fault
+pub record ReadsPiece (input piece : List ℕ) (before after : List Slip) (fault : Option LineFault) (reader : ReaderState) : Type 0 where
+  pub more : List Slip
+  pub further : AreFurther line_max input piece more
+  pub blocks : after ≡ before ++ more
+  pub fault_is : (received line_max (input ++ piece)).fault ≡ fault
+  pub read : reader ≡ state_after line_max (input ++ piece)
