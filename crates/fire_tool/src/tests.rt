@@ -286,32 +286,55 @@ fn has_front(sink: &MemorySink, text: &[u8]) -> bool {
     }
 }
 
+/// How many bytes of the steps of `CHAIN` stand written once so many of its lines have come.
+const WRITTEN: [usize; 5] = [0, 0, 14, 23, 43];
+
+/// Runs `steps` on a front of `CHAIN` in these pieces, after which the read with this number fails.
+fn check_read_fault(
+    rt: &impl Abort,
+    alloc: Global,
+    front: &[u8],
+    lengths: Vec<usize>,
+    fails: u64,
+) -> Result<(), AllocError> {
+    let words = words_of(alloc, "steps")?;
+    let pieces = PiecesSource::new(Vec::from_slice(alloc, CHAIN.input)?, lengths);
+    let mut input = FailingSource::new(pieces, Vec::from_slice(alloc, &[fails])?);
+    let mut output = MemorySink::new(alloc, 1024)?;
+    let mut errors = MemorySink::new(alloc, 64)?;
+    let shelf = &mut NoShelf;
+    let status = run_plain(
+        alloc,
+        words.as_slice(),
+        &mut input,
+        &mut output,
+        &mut errors,
+        shelf,
+    );
+    let lines = front.iter().filter(|byte| **byte == b'\n').count();
+    let steps = WRITTEN
+        .get(lines)
+        .and_then(|length| CHAIN.output.get(..*length));
+    assert_eq!(rt; status.code, 3, "after {lines} lines");
+    assert!(rt; output.written() == steps, "after {lines} lines");
+    assert!(rt;
+        errors.written() == Some(b"fire: read fault\n".as_slice()),
+        "after {lines} lines"
+    );
+    Ok(())
+}
+
 #[test]
 fn a_failed_read_leaves_the_steps_of_what_came(rt: HostRuntime) -> Result<(), Fail> {
     let alloc = rt.alloc();
-    let words = words_of(alloc, "steps")?;
-    for call in 0..CHAIN.input.len() {
-        let ones = vec![in alloc; 1; CHAIN.input.len()]?;
-        let inner = PiecesSource::new(Vec::from_slice(alloc, CHAIN.input)?, ones);
-        let fails = Vec::from_slice(alloc, &[call as u64])?;
-        let mut input = FailingSource::new(inner, fails);
-        let mut output = MemorySink::new(alloc, 1024)?;
-        let mut errors = MemorySink::new(alloc, 64)?;
-        let shelf = &mut NoShelf;
-        let status = run_plain(
-            alloc,
-            words.as_slice(),
-            &mut input,
-            &mut output,
-            &mut errors,
-            shelf,
-        );
-        assert_eq!(rt; status.code, 3, "at {call}");
-        assert!(rt; has_front(&output, CHAIN.output), "at {call}");
-        assert!(rt;
-            errors.written() == Some(b"fire: read fault\n".as_slice()),
-            "at {call}"
-        );
+    for length in 1..CHAIN.input.len() {
+        let Some(front) = CHAIN.input.get(..length) else {
+            continue;
+        };
+        let whole = Vec::from_slice(alloc, &[length])?;
+        check_read_fault(&rt, alloc, front, whole, 1)?;
+        let ones = vec![in alloc; 1; length]?;
+        check_read_fault(&rt, alloc, front, ones, length as u64)?;
     }
     Ok(())
 }
