@@ -4,3 +4,5 @@ pub mod Number
 pub mod Parents
 pub mod Slips
 pub mod Kinds
+pub mod Records
+pub mod Reading

@@ -4,17 +4,21 @@
 mod blocks;
 mod bytes;
 mod digests;
+mod faults;
 mod ids;
 mod numbers;
 mod readers;
+mod records;
 mod types;
 
 pub use blocks::{Block, BlockRef, Kind, PAYLOAD_BYTES_MAX, Slip, Version};
 pub use bytes::Bytes;
 pub use digests::slip_of;
+pub use faults::RecordFault;
 pub use ids::{Id, is_id};
 pub use numbers::read_number;
 pub use readers::ReaderName;
+pub use records::{decode, encode};
 pub use types::{TypeName, is_type_name};
 
 #[cfg(test)]

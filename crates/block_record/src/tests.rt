@@ -1,4 +1,7 @@
-use crate::{Block, Bytes, Id, Kind, ReaderName, TypeName, Version, is_id, read_number, slip_of};
+use crate::{
+    Block, Bytes, Id, Kind, ReaderName, RecordFault, TypeName, Version, decode, encode, is_id,
+    read_number, slip_of,
+};
 use sha2::{Digest, Sha256};
 use std::test::Fail;
 
@@ -51,7 +54,7 @@ fn ids_are_letters_digits_and_underscores(rt: HostRuntime) -> Result<(), Fail> {
 const NAMES: [(&[u8], bool, bool); 8] = [
     (b"r1", true, true),
     (b"sf.ethereum.type.v2.Block", true, false),
-    (b"R1", true, false),
+    (b"Reader", true, false),
     (b"-", true, false),
     (b"", false, false),
     (b"a b", false, false),
@@ -121,5 +124,105 @@ fn kinds_differ_by_version_and_type(rt: HostRuntime) -> Result<(), Fail> {
         block_type,
     };
     assert!(rt; old != new && old == old.clone()?);
+    Ok(())
+}
+
+// The record of the block 1/a1 with the parent 0/a0, lib number 0, time 0 and the payload 01.
+const RECORD: [u8; 44] = [
+    1, 0, 0, 0, 0, 0, 0, 0, 1, 0, 0, 0, 0, 0, 0, 0, 0, 0, 0, 0, 0, 0, 0, 0, 0, 0, 0, 0, 0, 0, 0, 0,
+    0, 2, b'a', b'1', 2, b'a', b'0', 0, 0, 0, 1, 1,
+];
+
+// A byte at a place of the record, and where the record is then refused.
+const CHANGES: [(usize, u8, Option<usize>); 20] = [
+    (0, 3, Some(0)),
+    (0, 2, Some(0)),
+    (8, 0, None),
+    (8, 200, None),
+    (16, 1, Some(9)),
+    (9, 1, Some(9)),
+    (24, 7, None),
+    (25, 255, None),
+    (33, 0, Some(33)),
+    (33, 1, Some(35)),
+    (33, 3, Some(33)),
+    (33, 255, Some(33)),
+    (34, b'-', Some(33)),
+    (36, 0, Some(36)),
+    (36, 9, Some(36)),
+    (38, b' ', Some(36)),
+    (39, 255, Some(39)),
+    (42, 0, Some(43)),
+    (42, 2, Some(39)),
+    (43, 2, None),
+];
+
+#[test]
+fn a_changed_record_is_refused_at_the_field_that_is_bad(rt: HostRuntime) -> Result<(), Fail> {
+    for (at, byte, bad) in CHANGES {
+        let mut bytes = RECORD;
+        *bytes.get_mut(at).ok_or("no such place")? = byte;
+        let refused = match decode(rt.alloc(), &bytes) {
+            Ok(_block) => None,
+            Err(RecordFault::BadRecord { at }) => Some(at),
+            Err(RecordFault::Mem) => return Err("no memory".into()),
+        };
+        assert!(rt; refused == bad, "at {at} with {byte}");
+    }
+    Ok(())
+}
+
+// How many bytes of the record there are, and the field that is cut.
+const CUTS: [(usize, usize); 14] = [
+    (0, 0),
+    (1, 1),
+    (8, 1),
+    (9, 9),
+    (16, 9),
+    (24, 17),
+    (32, 25),
+    (33, 33),
+    (35, 33),
+    (36, 36),
+    (38, 36),
+    (39, 39),
+    (42, 39),
+    (43, 39),
+];
+
+#[test]
+fn a_cut_record_is_refused_at_the_field_that_is_cut(rt: HostRuntime) -> Result<(), Fail> {
+    for (count, bad) in CUTS {
+        let bytes = RECORD.get(..count).ok_or("no such place")?;
+        let refused = decode(rt.alloc(), bytes);
+        assert!(rt;
+            matches!(&refused, Err(RecordFault::BadRecord { at }) if *at == bad),
+            "at {count}"
+        );
+    }
+    Ok(())
+}
+
+#[test]
+fn a_record_has_nothing_after_it(rt: HostRuntime) -> Result<(), Fail> {
+    let mut bytes = Vec::from_slice(rt.alloc(), &RECORD)?;
+    bytes.push(0)?;
+    let refused = decode(rt.alloc(), &bytes);
+    assert!(rt; matches!(refused, Err(RecordFault::BadRecord { at: 44 })));
+    Ok(())
+}
+
+#[test]
+fn a_block_is_its_record(rt: HostRuntime) -> Result<(), Fail> {
+    let alloc = rt.alloc();
+    let block = decode(alloc, &RECORD).ok().ok_or("the bytes are a record")?;
+    assert_eq!(rt;
+        (block.num, block.parent_num, block.lib_num, block.time),
+        (1, 0, 0, 0)
+    );
+    assert!(rt; block.id.as_bytes() == b"a1".as_slice());
+    assert!(rt; block.parent_id.as_bytes() == b"a0".as_slice());
+    assert!(rt; block.payload.as_bytes() == [1].as_slice() && block.digest == DIGEST);
+    assert!(rt; encode(alloc, &block)?.as_slice() == RECORD.as_slice());
     Ok(())
 }

@@ -23,6 +23,7 @@ use Rattle.block_record.specs.declared.blocks.Version.{Version}
 use Rattle.block_record.specs.declared.blocks.Version.TheVariants.{V1, V3}
 use Rattle.block_record.specs.Number.{number_of}
 use Rattle.block_record.specs.Parents.{is_parent_num}
+use Rattle.block_record.proofs.NumberTexts.{number_of-decimal}
 use Rattle.block_record.specs.Slips.{slip}
 use Rattle.block_record.specs.Texts.{is_id_text, is_id_byte, is_type_text, is_visible_byte}
 use Rattle.fire_lines.specs.Parts.{parts, words, without_cr}
@@ -86,24 +87,6 @@ word-test p text space lf cr all = record {
 
 numerals : IsNumeralModel (λ ds. all_ascii_digits ds ≡ true) (digits_value 10)
 numerals = numerals_by_value _ tells_all_ascii_digits
-
--- no text of a number but that of 0 begins with a 0
-no_zero_first : (n : ℕ) → n < 2 ^ 64 → (slice_index (decimal n) 0 == 48 && nat_lt 1 (length (decimal n))) ≡ false
-no_zero_first zero small =
-    let one : length (decimal 0) ≡ 1 = ap length (decimal_digit 0 (omega arith)) in
-    and_right _ _ (le-ltb 1 (length (decimal 0)) (omega (arith, one)))
-no_zero_first (suc n) small = and_left _ _ (ne_eqb (slice_index (decimal (suc n)) 0) 48 (λ (e : slice_index (decimal (suc n)) 0 ≡ 48). omega (arith, first_decimal (suc n) (omega arith) small, e)))
-
--- the text of a number is read as it. block_record proves this too, in a file of its own
-number_of-decimal : (n : ℕ) → n < 2 ^ 64 → number_of (decimal n) ≡ Some n
-unfolding number_of
-number_of-decimal n small =
-    let one : all_ascii_digits (decimal n) ≡ true = digits_decimal numerals n small in
-    let two : nat_lt 0 (length (decimal n)) ≡ true = lt-ltb _ _ (decimal_nonempty n small) in
-    let three : (slice_index (decimal n) 0 == 48 && nat_lt 1 (length (decimal n))) ≡ false = no_zero_first n small in
-    let value : digits_value 10 (decimal n) ≡ n = digits_value-decimal numerals n small in
-    let four : nat_lt n (2 ^ 64) ≡ true = lt-ltb _ _ small in
-    rw (one, two, three, value, four) refl
 
 digits_all : (l : List ℕ) → all_ascii_digits l ≡ list_all is_ascii_digit l
 digits_all [] = refl
