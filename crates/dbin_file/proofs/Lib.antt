@@ -1,0 +1,5 @@
+mod MessageFacts
+mod PieceFacts
+mod HeaderFacts
+mod StopFacts
+mod LawFacts

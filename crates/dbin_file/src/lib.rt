@@ -1,0 +1,17 @@
+//! Containers of messages: written, and read in any pieces.
+#![tactic(auto)]
+
+mod faults;
+mod headers;
+mod laws;
+mod messages;
+mod reader;
+
+pub use faults::DbinFault;
+pub use headers::header;
+pub use laws::container_is_read;
+pub use messages::{MESSAGE_BYTES_MAX, message};
+pub use reader::DbinReader;
+
+#[cfg(test)]
+mod tests;
