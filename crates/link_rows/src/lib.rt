@@ -1,0 +1,10 @@
+//! One rooted tree of numbered places, with far links.
+#![tactic(auto)]
+
+mod rows;
+mod steps;
+#[cfg(test)]
+mod tests;
+
+pub use rows::{LinkRows, digits};
+pub use steps::Steps;
