@@ -1,0 +1,5 @@
+pub mod PlaceFacts
+pub mod SlipFacts
+pub mod ParentFacts
+pub mod WalkFacts
+pub mod PathFacts
