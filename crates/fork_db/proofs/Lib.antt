@@ -1,0 +1,11 @@
+pub mod ClaimFacts
+pub mod VerdictFacts
+pub mod HeldFacts
+pub mod HeadFacts
+pub mod AdmitFacts
+pub mod RankFacts
+pub mod BatchFacts
+pub mod StepFacts
+pub mod PlaceFacts
+pub mod GivenFacts
+pub mod HoldFacts

@@ -1,0 +1,18 @@
+use Rattle.std.proofs.Common.{◌+◌, ◌<◌, refl, sym, subst}
+use Rattle.chain_model.specs.Steps.{steps_of}
+use Rattle.fork_db.proofs.PlaceFacts.{item_placed}
+use Rattle.fork_db.proofs.HoldFacts.{holds_own}
+use Rattle.fork_db.proofs.chunks.item_at.Goals as goal
+
+pub returns-clause-step : goal.returns-clause-step
+returns-clause-step c = λ older m stop given.
+    item_placed c.args.tree.now.history c.step_in-found.result.at c.args.batch.now.place c.in_ok-place.place (steps_of older c.args.batch.now.place m stop) c.args.index (c.args.index + 1) c.step_in-found.result.step
+    c.in_ok-slip.slip c.slip.result.now (c.step_in-found.ensures.value older m stop given) c.slip.ensures c.in_ok-slip.ensures refl (c.in_ok-place.ensures older m stop given)
+
+pub share-requires : goal.share-requires
+share-requires c = subst (λ n. c.step_in-found.result.at < n) (sym c.requires.held) c.step_in-found.ensures.range
+
+pub returns-clause-holds : goal.returns-clause-holds
+returns-clause-holds c =
+    holds_own c.args.tree.now.history c.args.held.now.blocks c.step_in-found.result.at c.slip.result.now
+    (record { step = c.step_in-found.result.step; slip = c.in_ok-slip.slip; held = c.in_ok-shared.shared; place = c.in_ok-place.place }) _ c.requires.sound c.slip.ensures c.in_ok-slip.ensures c.in_ok-shared.ensures refl

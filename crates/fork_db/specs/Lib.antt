@@ -1,0 +1,6 @@
+pub mod Held
+pub mod Claims
+pub mod Verdicts
+pub mod Forks
+pub mod Heads
+pub mod Batches

@@ -1,0 +1,21 @@
+//! A history with forks: what may come next, what is final, the head, and the steps to it.
+#![tactic(auto)]
+
+mod batches;
+mod chunks;
+mod claims;
+#[cfg(test)]
+mod client;
+mod db;
+#[cfg(test)]
+mod fixtures;
+#[cfg(test)]
+mod generated_tests;
+mod heads;
+mod held;
+#[cfg(test)]
+mod tests;
+
+pub use batches::Batch;
+pub use chunks::{StepAt, StepItem};
+pub use db::{ForkDb, ForkFault, Verdict};
