@@ -1,0 +1,6 @@
+mod SplitFacts
+mod WordFacts
+mod ReadFacts
+mod FaultFacts
+mod PrintFacts
+mod TextFacts

@@ -1,0 +1,17 @@
+//! Cursors: where a client goes on, as a value and as a text.
+#![tactic(auto)]
+
+mod cursor;
+mod form;
+mod laws;
+mod parse;
+mod print;
+mod read;
+mod refs;
+#[cfg(test)]
+mod tests;
+
+pub use cursor::{Cursor, CursorFault, MisfitField, Request, Tail};
+pub use laws::printed_is_read;
+pub use parse::parse_cursor;
+pub use print::print_cursor;
