@@ -1,3 +1,5 @@
-pub mod RunFacts
+pub mod JudgeFacts
+pub mod TellFacts
 pub mod ProgressFacts
 pub mod StepsFacts
+mod CursorFacts

@@ -1,5 +1,5 @@
 -- A run that takes a further piece of its input.
-use Rattle.std.proofs.Common.{◌≡◌, ◌++◌, ℕ, List, [], Option, None, Some, MatchOption, Result, Ok, Err, OnErr, reverse, refl, sym, ◌∙◌, ap, subst, append_assoc}
+use Rattle.std.proofs.Common.{◌≡◌, ◌++◌, ℕ, List, [], Option, None, Some, MatchOption, Result, Ok, Err, OnErr, refl, sym, ◌∙◌, ap, subst, append_assoc}
 use Rattle.std.proofs.lemmas.List.{append-nil}
 use mathlib.Core.List.{IsPrefix}
 use Rattle.block_record.specs.declared.blocks.Slip.{Slip}
@@ -9,10 +9,10 @@ use Rattle.fire_lines.specs.declared.faults.LineFault.{LineFault}
 use Rattle.fire_lines.specs.Reader.{ReaderState}
 use Rattle.fire_lines.specs.Text.{received}
 use Rattle.fire_lines.specs.Laws.{TextGoesOn}
-use Rattle.fire_tool.specs.declared.offers.Refusal.{Refusal}
+use Rattle.step_text.specs.declared.offers.Refusal.{Refusal}
 use Rattle.fire_tool.specs.declared.progress.RunEnd.{RunEnd}
-use Rattle.fire_tool.specs.StepText.{Told, StepText, refusal, text_of, tell, prepend, line_max, step_text}
-use Rattle.fire_tool.specs.Taken.{Tells}
+use Rattle.step_text.specs.StepText.{Told, StepText, refusal, text_of, tell, prepend, line_max, step_text}
+use Rattle.step_text.specs.Taken.{Tells}
 use Rattle.fire_tool.specs.Telling.{IsUnderWay, IsEnded, ReadsPiece, end_for, ending_seen}
 
 -- a fact that holds, at an error
@@ -32,31 +32,31 @@ pub told_first : (law : TextGoesOn) (input told piece : List ℕ) (reader : Read
     → IsPrefix told (step_text (input ++ piece)).text
 told_first law input told piece reader history place u =
     let g = law line_max input piece in
-    let all : told_of (input ++ piece) ≡ prepend told (tell g.more (reverse history) place) = ap (λ l. tell l [] no_place) g.further ∙ u.goes_on g.more in
-    ((tell g.more (reverse history) place).text, sym (ap (λ t. t.text) all))
+    let all : told_of (input ++ piece) ≡ prepend told (tell g.more history place) = ap (λ l. tell l [] no_place) g.further ∙ u.goes_on g.more in
+    ((tell g.more history place).text, sym (ap (λ t. t.text) all))
 
 module _ (input told piece : List ℕ) (old new : ReaderState) (before after : List Slip) (from to : Place) (blocks : List Slip) (text : List ℕ) where
   -- what is told of the input with the piece and further blocks
   told_with : (fault : Option LineFault) (more : List Slip) → ReadsPiece input piece [] blocks fault new → IsUnderWay input told old before from
-      → tell ((received line_max (input ++ piece)).slips ++ more) [] no_place ≡ prepend told (tell (blocks ++ more) (reverse before) from)
+      → tell ((received line_max (input ++ piece)).slips ++ more) [] no_place ≡ prepend told (tell (blocks ++ more) before from)
   told_with fault more r u =
       let slips : (received line_max (input ++ piece)).slips ≡ (received line_max input).slips ++ blocks = r.further ∙ ap (λ l. (received line_max input).slips ++ l) (sym r.blocks) in
       ap (λ l. tell (l ++ more) [] no_place) slips ∙ (ap (λ l. tell l [] no_place) (append_assoc (received line_max input).slips blocks more) ∙ u.goes_on (blocks ++ more))
 
   -- nothing in the piece ends the run
   goes_on_further : (fault : Option LineFault) (more : List Slip) → ReadsPiece input piece [] blocks fault new → IsUnderWay input told old before from
-      → ((later : List Slip) → Tells (tell (blocks ++ later) (reverse before) from) later None text (reverse after) to)
-      → tell ((received line_max (input ++ piece)).slips ++ more) [] no_place ≡ prepend (told ++ text) (tell more (reverse after) to)
-  goes_on_further fault more r u t = told_with fault more r u ∙ (ap (prepend told) (t more) ∙ prepend_twice told text (tell more (reverse after) to))
+      → ((later : List Slip) → Tells (tell (blocks ++ later) before from) later None text after to)
+      → tell ((received line_max (input ++ piece)).slips ++ more) [] no_place ≡ prepend (told ++ text) (tell more after to)
+  goes_on_further fault more r u t = told_with fault more r u ∙ (ap (prepend told) (t more) ∙ prepend_twice told text (tell more after to))
 
   -- a block of the piece is refused
   refused_further : (fault : Option LineFault) (r : Refusal) (more : List Slip) → ReadsPiece input piece [] blocks fault new → IsUnderWay input told old before from
-      → ((later : List Slip) → Tells (tell (blocks ++ later) (reverse before) from) later (Some r) text (reverse after) to)
+      → ((later : List Slip) → Tells (tell (blocks ++ later) before from) later (Some r) text after to)
       → tell ((received line_max (input ++ piece)).slips ++ more) [] no_place ≡ record { text = told ++ text; refusal = Some r }
   refused_further fault r more reads u t = told_with fault more reads u ∙ ap (prepend told) (t more)
 
   taken : (law : TextGoesOn) (refused : Option Refusal) (fault : Option LineFault) → ReadsPiece input piece [] blocks fault new → IsUnderWay input told old before from
-      → ((later : List Slip) → Tells (tell (blocks ++ later) (reverse before) from) later refused text (reverse after) to)
+      → ((later : List Slip) → Tells (tell (blocks ++ later) before from) later refused text after to)
       → MatchOption (end_for refused fault) (IsUnderWay (input ++ piece) (told ++ text) new after to) (λ e. IsEnded (input ++ piece) (told ++ text) (ending_seen e))
   taken law None None r u t = record {
     read = r.read;
@@ -86,12 +86,12 @@ module _ (input told piece : List ℕ) (old new : ReaderState) (before after : L
 pub piece_taken : (law : TextGoesOn) (input told piece : List ℕ) (old new : ReaderState) (before after : List Slip) (from to : Place) (none blocks : List Slip) (start text : List ℕ)
     (refused : Option Refusal) (fault : Option LineFault) (end : Option RunEnd) → none ≡ [] → start ≡ [] → end ≡ end_for refused fault
     → ReadsPiece input piece none blocks fault new
-    → ((later : List Slip) → Tells (prepend start (tell (blocks ++ later) (reverse before) from)) later refused text (reverse after) to)
+    → ((later : List Slip) → Tells (prepend start (tell (blocks ++ later) before from)) later refused text after to)
     → IsUnderWay input told old before from
     → MatchOption end (IsUnderWay (input ++ piece) (told ++ text) new after to) (λ e. IsEnded (input ++ piece) (told ++ text) (ending_seen e))
 piece_taken law input told piece old new before after from to none blocks start text refused fault end no_blocks no_text is reads tells u =
     let r : ReadsPiece input piece [] blocks fault new = subst (λ (l : List Slip). ReadsPiece input piece l blocks fault new) no_blocks reads in
-    let t : (later : List Slip) → Tells (tell (blocks ++ later) (reverse before) from) later refused text (reverse after) to =
-    subst (λ (l : List ℕ). (later : List Slip) → Tells (prepend l (tell (blocks ++ later) (reverse before) from)) later refused text (reverse after) to) no_text tells in
+    let t : (later : List Slip) → Tells (tell (blocks ++ later) before from) later refused text after to =
+    subst (λ (l : List ℕ). (later : List Slip) → Tells (prepend l (tell (blocks ++ later) before from)) later refused text after to) no_text tells in
     subst (λ (e : Option RunEnd). MatchOption e (IsUnderWay (input ++ piece) (told ++ text) new after to) (λ x. IsEnded (input ++ piece) (told ++ text) (ending_seen x))) (sym is)
     (taken input told piece old new before after from to blocks text law refused fault r u t)

@@ -13,7 +13,7 @@ use Rattle.fire_tool.specs.declared.progress.RunEnd.{RunEnd}
 use Rattle.fire_tool.specs.declared.steps.Ended.{Ended}
 use Rattle.fire_tool.specs.declared.steps.StepsStop.{StepsStop}
 use Rattle.fire_tool.specs.declared.steps.StepsStop.TheVariants.{Mem, Read, Write, TooLong}
-use Rattle.fire_tool.specs.StepText.{StepText, whole, text_of, tell, step_text, line_max}
+use Rattle.step_text.specs.StepText.{StepText, whole, text_of, tell, step_text, line_max}
 use Rattle.fire_tool.specs.ErrorLines.{ending_line, ending_status, IsEndStatus}
 use Rattle.fire_tool.specs.Runs.{Flow, flow, TookInput, Answered, RanOut, ReadFailed, TookTooMuch, Stopped}
 use Rattle.fire_tool.specs.Telling.{IsUnderWay, IsEnded, ending_seen}
@@ -81,6 +81,14 @@ flows_first before reader history place u = record {
   counted = refl;
   reads = omega arith;
   writes = omega arith;
+}
+
+-- there was no memory to begin with
+pub ran_out_first : (before : Flow) → RanOut before before
+ran_out_first before = record {
+  input = [];
+  took = record { first = consumes_none before.left; last = grows_none before.given };
+  text = ([], ((step_text []).text, refl), grows_none before.written);
 }
 
 -- a piece more

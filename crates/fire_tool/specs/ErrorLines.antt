@@ -1,13 +1,13 @@
 -- The status of what ended a text, and the line that names it.
 use Rattle.std.specs.Prelude.{ℕ, ◌≡◌, ◌⊎◌, List, [], ◌∷◌, ◌++◌, codes}
 use Rattle.std.specs.Fmt.{decimal}
-use Rattle.fire_tool.specs.declared.offers.ConflictKind.{ConflictKind}
-use Rattle.fire_tool.specs.declared.offers.ConflictKind.TheVariants as kind
-use Rattle.fire_tool.specs.declared.offers.Refusal.{Refusal}
-use Rattle.fire_tool.specs.declared.offers.Refusal.TheVariants as refused
+use Rattle.step_text.specs.declared.offers.ConflictKind.{ConflictKind}
+use Rattle.step_text.specs.declared.offers.ConflictKind.TheVariants as kind
+use Rattle.step_text.specs.declared.offers.Refusal.{Refusal}
+use Rattle.step_text.specs.declared.offers.Refusal.TheVariants as refused
 use Rattle.fire_lines.specs.declared.faults.LineFault.{LineFault}
 use Rattle.fire_lines.specs.declared.faults.LineFault.TheVariants as fault
-use Rattle.fire_tool.specs.StepText.{Ending, whole, bad_line, refusal}
+use Rattle.step_text.specs.StepText.{Ending, whole, bad_line, refusal}
 
 -- a number and an id
 abbrev pub named : ℕ → List ℕ → List ℕ
@@ -22,6 +22,7 @@ kind_word kind.Finality = codes "finality"
 -- the line of a refusal
 abbrev pub refusal_line : Refusal → List ℕ
 refusal_line (refused.Unlinked block) = codes "fire: unlinked " ++ named block.num block.id ++ 10 ∷ []
+refusal_line (refused.HistoryFull len need) = codes "fire: history full " ++ decimal len ++ 32 ∷ decimal need ++ 10 ∷ []
 refusal_line (refused.Contradicts c) = codes "fire: conflict " ++ kind_word c.kind ++ codes " held " ++ named c.held.num c.held.id ++ codes " offered " ++ named c.offered.num c.offered.id ++ 10 ∷ []
 
 -- what is wrong with a line; that there was no memory is no fault of the line
@@ -58,6 +59,7 @@ fault_line f = codes "fire: line " ++ decimal (fault_place f) ++ codes ": " ++ f
 -- the status of a refusal
 abbrev pub refusal_status : Refusal → ℕ
 refusal_status (refused.Unlinked block) = 12
+refusal_status (refused.HistoryFull len need) = 12
 refusal_status (refused.Contradicts c) = 6
 
 -- the line of what ended a text, and none at its end

@@ -1,7 +1,6 @@
-pub mod Offers
-pub mod StepText
+pub mod Following
 pub mod ErrorLines
-pub mod Taken
 pub mod Telling
 pub mod Runs
 pub mod Pieces
+pub mod CursorCommand

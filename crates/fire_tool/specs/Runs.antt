@@ -6,7 +6,7 @@ use Rattle.outer_world.specs.Causes.{Rose}
 use Rattle.outer_world.specs.Told.{Grows, GrowsByFront, Took}
 use Rattle.fire_tool.specs.declared.steps.StepsStop.{StepsStop}
 use Rattle.fire_tool.specs.declared.steps.StepsStop.TheVariants.{Mem, Read, Write, TooLong}
-use Rattle.fire_tool.specs.StepText.{step_text}
+use Rattle.step_text.specs.StepText.{step_text}
 use Rattle.fire_tool.specs.ErrorLines.{ending_line, ending_status}
 
 -- an input and an output at one moment: what they tell of their bytes, and how often each has failed

@@ -1,21 +1,21 @@
 -- A run under way, and how it ends.
-use Rattle.std.specs.Prelude.{ℕ, ◌≡◌, List, [], ◌++◌, reverse, Option, None, Some}
+use Rattle.std.specs.Prelude.{ℕ, ◌≡◌, List, [], ◌++◌, Option, None, Some}
 use Rattle.block_record.specs.declared.blocks.Slip.{Slip}
 use Rattle.chain_model.specs.declared.places.Place.{Place}
 use Rattle.chain_model.specs.Places.{no_place}
 use Rattle.fire_lines.specs.declared.faults.LineFault.{LineFault}
 use Rattle.fire_lines.specs.Reader.{ReaderState, state_after, AreFurther}
 use Rattle.fire_lines.specs.Text.{received}
-use Rattle.fire_tool.specs.declared.offers.Refusal.{Refusal}
+use Rattle.step_text.specs.declared.offers.Refusal.{Refusal}
 use Rattle.fire_tool.specs.declared.progress.RunEnd.{RunEnd}
 use Rattle.fire_tool.specs.declared.progress.RunEnd.TheVariants.{BadLine, Refused}
-use Rattle.fire_tool.specs.StepText.{Ending, bad_line, refusal, tell, prepend, line_max, step_text}
+use Rattle.step_text.specs.StepText.{Ending, bad_line, refusal, tell, prepend, line_max, step_text}
 
--- these bytes were taken and nothing in them ended the run, and this text was told: whatever blocks come next are told from this history and this place
+-- these bytes were taken and nothing in them ended the run, and this text was told: whatever blocks come next are told from this history, which has its newest block first, and this place
 pub record IsUnderWay (input told : List ℕ) (reader : ReaderState) (history : List Slip) (place : Place) : Type 0 where
   pub read : reader ≡ state_after line_max input
   pub sound : (received line_max input).fault ≡ None
-  pub goes_on : (more : List Slip) → tell ((received line_max input).slips ++ more) [] no_place ≡ prepend told (tell more (reverse history) place)
+  pub goes_on : (more : List Slip) → tell ((received line_max input).slips ++ more) [] no_place ≡ prepend told (tell more history place)
 
 -- these bytes ended the run so, whatever follows them, and this text was told
 pub record IsEnded (input told : List ℕ) (ending : Ending) : Type 0 where

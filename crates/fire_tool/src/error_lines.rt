@@ -4,15 +4,15 @@ ghost use Rattle.std.specs.Prelude.{◌≡◌, ◌++◌, IfOk, OnOk};
 ghost use Rattle.fire_tool.specs.ErrorLines.{named, kind_word, refusal_line, fault_words, fault_place, fault_field, fault_line, ending_line, ending_status, IsEndStatus};
 ghost use Rattle.fire_tool.specs.Telling.{ending_seen};
 
-use crate::offers::{Conflict, ConflictKind, Refusal};
 use crate::progress::RunEnd;
 use block_record::Id;
 use fire_lines::LineFault;
 use itoa::Buffer;
 use std::alloc::{AllocError, Global};
+use step_text::{Conflict, ConflictKind, Refusal};
 
 /// Appends a number and an id.
-fn push_named(num: u64, id: &Id, line: &mut Vec<u8>) -> Result<(), AllocError>
+pub fn push_named(num: u64, id: &Id, line: &mut Vec<u8>) -> Result<(), AllocError>
     ensures { OnOk result (line.new.items ≡ line.old.items ++ named num id.now) }
 {
     let mut digits = Buffer::new();
@@ -47,6 +47,19 @@ fn conflict_line(alloc: Global, conflict: &Conflict) -> Result<Vec<u8>, AllocErr
     Ok(line)
 }
 
+/// The line of a full history.
+fn full_line(alloc: Global, len: u64, need: u64) -> Result<Vec<u8>, AllocError>
+    ensures { IfOk result (λ line. line.items ≡ refusal_line (Refusal.HistoryFull len need)) }
+{
+    let mut digits = Buffer::new();
+    let mut line = Vec::from_slice(alloc, b"fire: history full ")?;
+    line.extend_from_slice(digits.format(len).as_bytes())?;
+    line.push(b' ')?;
+    line.extend_from_slice(digits.format(need).as_bytes())?;
+    line.push(b'\n')?;
+    Ok(line)
+}
+
 /// The line of a refusal.
 fn line_of_refusal(alloc: Global, refusal: &Refusal) -> Result<Vec<u8>, AllocError>
     ensures { IfOk result (λ line. line.items ≡ refusal_line refusal.now) }
@@ -58,10 +71,8 @@ fn line_of_refusal(alloc: Global, refusal: &Refusal) -> Result<Vec<u8>, AllocErr
             line.push(b'\n')?;
             Ok(line)
         }
-        Refusal::Contradicts(conflict) => {
-            let line = conflict_line(alloc, conflict)?;
-            Ok(line)
-        }
+        Refusal::Contradicts(conflict) => conflict_line(alloc, conflict),
+        Refusal::HistoryFull { len, need } => full_line(alloc, *len, *need),
     }
 }
 
@@ -141,7 +152,7 @@ pub fn status_of_end(end: &RunEnd) -> u8
 {
     match end {
         RunEnd::BadLine(_) => 5,
-        RunEnd::Refused(Refusal::Unlinked(_)) => 12,
+        RunEnd::Refused(Refusal::Unlinked(_) | Refusal::HistoryFull { .. }) => 12,
         RunEnd::Refused(Refusal::Contradicts(_)) => 6,
     }
 }

@@ -1,13 +1,16 @@
-//! The program: it reads the lines of a ledger node, and prints the steps that its blocks bring about.
+//! The program: it reads the lines of a ledger node and prints the steps that its blocks bring about,
+//! and says what a cursor's text stands for.
 #![tactic(auto)]
 
+mod cursor;
+#[cfg(test)]
+mod cursor_tests;
 mod error_lines;
-mod offers;
+mod following;
 mod progress;
 mod run;
 mod steps;
 mod streams;
-mod telling;
 #[cfg(test)]
 mod tests;
 

@@ -6,15 +6,14 @@ ghost use Rattle.block_record.specs.declared.blocks.Slip.{Slip};
 ghost use Rattle.block_record.specs.Slips.{slip};
 ghost use Rattle.fire_lines.specs.Reader.{state_after, AreFurther};
 ghost use Rattle.fire_lines.specs.Text.{received};
-ghost use Rattle.fire_tool.specs.StepText.{line_max, step_text};
+ghost use Rattle.step_text.specs.StepText.{line_max, step_text};
 ghost use Rattle.fire_tool.specs.Telling.{IsUnderWay, IsEnded, ReadsPiece, end_for, ending_seen};
 
-use crate::offers::Refusal;
-use crate::telling::tell_blocks;
-use block_record::{Block, Slip};
-use chain_model::Place;
+use crate::following::Follower;
+use block_record::Block;
 use fire_lines::{LineFault, LineReader, text_goes_on};
 use std::alloc::{AllocError, Global};
+use step_text::Refusal;
 
 /// The most bytes of a line.
 pub const LINE_BYTES_MAX: usize = 67_108_864;
@@ -30,57 +29,43 @@ pub enum RunEnd {
 #[derive(Drop)]
 pub struct Progress {
     pub reader: LineReader,
-    pub history: Vec<Slip>,
-    /// Where a client stands that was told everything.
-    pub place: Place,
-    /// Room for the blocks of a piece, which are let go once their steps are in `text`.
-    pub blocks: Vec<Block>,
+    /// The history, and where a client stands that was told everything.
+    pub follower: Follower,
     /// The step lines of the last piece.
     pub text: Vec<u8>,
 }
 
 impl Progress {
     /// A run that has taken nothing.
-    pub fn new(alloc: Global) -> Progress
-        ensures { IsUnderWay [] [] result.reader result.history.items result.place }
+    pub fn new(alloc: Global) -> Result<Progress, AllocError>
+        ensures { IfOk result
+            (λ p. IsUnderWay [] [] p.reader p.follower.history p.follower.place) }
     {
-        Progress {
+        Ok(Progress {
             reader: LineReader::new(alloc, LINE_BYTES_MAX),
-            history: Vec::new(alloc),
-            place: Place {
-                end: None,
-                lib: None,
-            },
-            blocks: Vec::new(alloc),
+            follower: Follower::new(alloc)?,
             text: Vec::new(alloc),
-        }
+        })
     }
 
     /// Takes a further piece of the input, tells its steps to `text`, and says what ended the run, if
     /// the piece did.
     pub fn take_piece(&mut self, alloc: Global, piece: &[u8]) -> Result<Option<RunEnd>, AllocError>
         ensures taken { (input told : List ℕ)
-            → IsUnderWay input told self.old.reader self.old.history.items self.old.place
+            → IsUnderWay input told self.old.reader self.old.follower.history self.old.follower.place
             → IfOk result (λ end. MatchOption end
             (IsUnderWay (input ++ piece.now) (told ++ self.new.text.items)
-            self.new.reader self.new.history.items self.new.place)
+            self.new.reader self.new.follower.history self.new.follower.place)
             (λ e. IsEnded (input ++ piece.now) (told ++ self.new.text.items) (ending_seen e))) }
         ensures memory { (input told : List ℕ)
-            → IsUnderWay input told self.old.reader self.old.history.items self.old.place
+            → IsUnderWay input told self.old.reader self.old.follower.history self.old.follower.place
             → OnErr result (IsPrefix told (step_text (input ++ piece.now)).text) }
     {
         text_goes_on();
         self.text.clear();
-        self.blocks.clear();
-        let fault = read_piece(&mut self.reader, piece, &mut self.blocks)?;
-        let refusal = tell_blocks(
-            alloc,
-            self.blocks.as_slice(),
-            &mut self.history,
-            &mut self.place,
-            &mut self.text,
-        )?;
-        self.blocks.clear();
+        let mut blocks = Vec::new(alloc);
+        let fault = read_piece(&mut self.reader, piece, &mut blocks)?;
+        let refusal = self.follower.tell(alloc, blocks, &mut self.text)?;
         Ok(end_of(refusal, fault))
     }
 }

@@ -1,6 +1,6 @@
 //! The command that prints the steps of a node's lines.
 
-ghost use Rattle.std.specs.Prelude.{◌≡◌, ◌++◌, ◌≤◌, ℕ, List, Option, IfOk, IfErr, MatchResult};
+ghost use Rattle.std.specs.Prelude.{◌≡◌, ◌++◌, ◌≤◌, [], ℕ, List, Option, IfOk, IfErr, MatchResult};
 ghost use Rattle.outer_world.specs.Told.{Grows};
 ghost use Rattle.fire_tool.specs.ErrorLines.{ending_line, ending_status, IsEndStatus};
 ghost use Rattle.fire_tool.specs.Pieces.{PieceTaken};
@@ -68,11 +68,11 @@ fn take_piece<O: Sink>(
     output: &mut O,
 ) -> Result<Option<RunEnd>, StepsStop>
     ensures taken { (input told : List ℕ) (start : Option (List ℕ))
-        → IsUnderWay input told progress.old.reader progress.old.history.items progress.old.place
+        → IsUnderWay input told progress.old.reader progress.old.follower.history progress.old.follower.place
         → Grows start (O.written output.old) told
         → PieceTaken (input ++ piece.now) start (O.written output.new)
         (O.write_faults output.old) (O.write_faults output.new)
-        progress.new.reader progress.new.history.items progress.new.place result }
+        progress.new.reader progress.new.follower.history progress.new.follower.place result }
     ensures faults { O.write_faults output.old ≤ O.write_faults output.new }
 {
     let Ok(end) = progress.take_piece(alloc, piece) else {
@@ -115,7 +115,29 @@ pub fn run_steps<I: Source, O: Sink>(
         (λ e. Answered before after e.line.items e.status)
         (λ stop. Stopped stop before after) }
 {
-    let mut progress = Progress::new(alloc);
+    let Ok(progress) = Progress::new(alloc) else {
+        return Err(StepsStop::Mem);
+    };
+    run_from(alloc, progress, input, output)
+}
+
+/// The same, from a run that has taken nothing.
+fn run_from<I: Source, O: Sink>(
+    alloc: Global,
+    mut progress: Progress,
+    input: &mut I,
+    output: &mut O,
+) -> Result<Ended, StepsStop>
+    requires { IsUnderWay [] [] progress.reader progress.follower.history progress.follower.place }
+    ensures answer { IfOk result (λ e. IsAnswer e.status) }
+    ensures done { let before = flow (I.left input.old) (I.given input.old) (I.read_faults input.old)
+        (O.written output.old) (O.write_faults output.old) in
+        let after = flow (I.left input.new) (I.given input.new) (I.read_faults input.new)
+        (O.written output.new) (O.write_faults output.new) in
+        MatchResult result
+        (λ e. Answered before after e.line.items e.status)
+        (λ stop. Stopped stop before after) }
+{
     let mut buf = [0; 65_536];
     let mut taken = 0;
     while taken < TEXT_BYTES_MAX {

@@ -1,9 +1,15 @@
+use crate::following::Follower;
+use crate::progress::LINE_BYTES_MAX;
 use crate::run::run_plain;
+use block_record::Block;
+use chain_model::Place;
+use fire_lines::LineReader;
 use memory_world::{FailingSink, FailingSource, MemorySink, MemorySource, PiecesSource};
 use outer_world::{NoShelf, Sink, Source};
 use std::alloc::{AllocError, Global};
 use std::process::Abort;
 use std::test::Fail;
+use step_text::tell_plainly;
 
 #[derive(Clone, Copy)]
 struct Row {
@@ -388,4 +394,43 @@ fn a_failed_error_line_changes_nothing(rt: HostRuntime) -> Result<(), Fail> {
     assert_eq!(rt; status.code, 0);
     assert!(rt; output.written() == Some(CHAIN.output));
     Ok(())
+}
+
+#[test]
+fn the_follower_tells_what_the_slow_body_tells(rt: HostRuntime) -> Result<(), Fail> {
+    for row in ROWS {
+        check_told_alike(&rt, rt.alloc(), row)?;
+    }
+    Ok(())
+}
+
+fn check_told_alike(rt: &impl Abort, alloc: Global, row: Row) -> Result<(), AllocError> {
+    let mut follower = Follower::new(alloc)?;
+    let mut text = Vec::new(alloc);
+    let refusal = follower.tell(alloc, blocks_of(alloc, row.input)?, &mut text)?;
+    let blocks = blocks_of(alloc, row.input)?;
+    let mut history = Vec::new(alloc);
+    let mut place = Place {
+        end: None,
+        lib: None,
+    };
+    let mut plain = Vec::new(alloc);
+    let wanted = tell_plainly(
+        alloc,
+        blocks.as_slice(),
+        &mut history,
+        &mut place,
+        &mut plain,
+    )?;
+    assert!(rt; text == plain, "{}", row.shows);
+    assert!(rt; refusal == wanted, "{}", row.shows);
+    Ok(())
+}
+
+/// The blocks of lines up to the first bad one.
+fn blocks_of(alloc: Global, input: &[u8]) -> Result<Vec<Block>, AllocError> {
+    let mut reader = LineReader::new(alloc, LINE_BYTES_MAX);
+    let mut blocks = Vec::new(alloc);
+    let _ = reader.feed(input, &mut blocks);
+    Ok(blocks)
 }

@@ -9,7 +9,7 @@ returns-in_err-fault-clause-memory c input told u = at_err c.from_residual.resul
 pub returns-clause-taken : goal.returns-clause-taken
 returns-clause-taken c input told u =
     piece_taken c.text_goes_on.ensures input told c.args.piece.now _ _ _ _ _ _ _ _ _ _ c.in_ok-refusal.refusal c.in_ok-fault.fault c.end_of.result
-    (ap (map slip) c.clear-2.ensures.items) c.clear.ensures.items c.end_of.ensures
+    (ap (map slip) c.new-blocks.ensures.items) c.clear.ensures.items c.end_of.ensures
     (c.in_ok-fault.ensures.read input u.read)
-    (λ later. rw c.as_slice.ensures.value at (c.in_ok-refusal.ensures later))
+    (λ later. c.in_ok-refusal.ensures later)
     u
