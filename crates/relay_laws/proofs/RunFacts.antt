@@ -1,0 +1,404 @@
+-- What a run keeps of the blocks answered Ok.
+use Rattle.std.proofs.Common.{arith, ◌≡◌, ◌≤◌, ◌<◌, ◌⊎◌, inl, inr, ℕ, ◌+◌, Bool, true, false, cond, leb, List, [], ◌∷◌, ◌++◌, length, reverse, Option, Some, None, refl, sym, ◌∙◌, ap, subst, ltb, ◌&&◌}
+use Rattle.std.proofs.Math.Dec.{eqb}
+use Rattle.std.proofs.lemmas.Bool.{and_parts, cases_Bool, both_ways, false_from_ne_true, ltb-true, ltb-false, le-leb, leb-true, eqb-true, eq-eqb}
+use Rattle.std.proofs.lemmas.List.{reverse-reverse}
+use mathlib.Core.List.{IsSuffix, IsSuffix-trans}
+use Rattle.block_record.specs.declared.blocks.Slip.{Slip}
+use Rattle.block_record.specs.Ids.{same_id, same_id_refl, same_id-true}
+use Rattle.chain_model.specs.Ancestry.{find_id, has_id, IsHistory}
+use Rattle.chain_model.specs.Finality.{root_num, final_tip}
+use Rattle.chain_laws.proofs.Lines.{has_id-find_id, find_id_at, find_id_past}
+use Rattle.chain_laws.proofs.Growth.{IsFound, claim_found, tip_claimed, found_past}
+use Rattle.chain_laws.proofs.Orders.{root_least}
+use Rattle.chain_laws.proofs.Roots.{has_tip}
+use Rattle.chain_laws.proofs.Later.{find_later}
+use Rattle.relay_model.specs.declared.answers.Conflict.{Conflict as Clash}
+use Rattle.std.specs.Str.{bytes_eq}
+use Rattle.std.proofs.lemmas.Slice.Eq.{bytes_eq-Decides}
+use Rattle.block_record.specs.Slips.{same_slip}
+use Rattle.relay_model.specs.Worlds.{World, has_room, descendants}
+use Rattle.relay_model.specs.Offers.{Verdict, Shut, Repeats, Clashes, TooEarly, Late, NoRoom, Waits, Passes, Takes, intake, tip_num, num_of, judge, judge_held, judge_linked, judge_parent, judge_limit, judge_clash, clash, answer_by, world_by, offered}
+use Rattle.relay_model.specs.Orders.{root_or, root_of, position}
+use Rattle.relay_model.specs.Soundness.{IsBlock}
+use Rattle.relay_model.specs.Runs.{is_ok, dropped_by}
+use Rattle.relay_model.specs.Soundness.{IsDistinct, IsSound}
+use Rattle.relay_model.proofs.Admits.{found_cases}
+use Rattle.relay_model.proofs.Intakes.{taking_grows}
+use Rattle.relay_model.proofs.Judged.{limit_takes, judged_waits, judged_takes}
+use Rattle.relay_model.proofs.Sound.{first_intake, starts, begins_taking, keeps_by, new_parts}
+use Rattle.relay_model.proofs.Entries.{tip_rises}
+use Rattle.relay_laws.proofs.Moves.{filter_found, found_filter, moves}
+
+-- the root of a history
+abbrev pub last_of : List Slip → Option Slip
+last_of [] = None
+last_of (s ∷ []) = Some s
+last_of (s ∷ t ∷ older) = last_of (t ∷ older)
+
+pub last_append : (more : List Slip) (s : Slip) (older : List Slip) → last_of (more ++ s ∷ older) ≡ last_of (s ∷ older)
+last_append [] s older = refl
+last_append (x ∷ []) s older = refl
+last_append (x ∷ y ∷ more) s older = last_append (y ∷ more) s older
+
+-- where a received block is: below the first number, in the history, waiting, or not above the tip
+abbrev pub Where : World → Slip → Type 0
+Where w s = (s.num < w.first) ⊎ IsFound w.history s ⊎ IsFound w.waiting s ⊎ (s.num ≤ tip_num w.history)
+
+-- a list of received blocks with one more, or a repeat
+pub record IsStep (first : ℕ) (old new : List Slip) (s : Slip) : Type 0 where
+  pub has : IsFound new s
+  pub keeps : (x : Slip) → IsFound old x → IsFound new x
+  pub from : (x : Slip) → IsFound new x → (x ≡ s) ⊎ IsFound old x
+  pub root : root_of first new ≡ root_or (root_of first old) first s
+  pub again : IsFound old s → root_of first new ≡ root_of first old
+  pub at : (x : Slip) → IsFound old x → position new x ≡ position old x
+  -- a new block has the last position, and a repeat is there
+  pub fresh : IsFound old s ⊎ (position new s ≡ length old)
+  pub distinct : IsDistinct new
+
+pub record IsRun (w : World) (received : List Slip) : Type 0 where
+  pub sound : IsSound w
+  pub in_history : (x : Slip) → IsFound w.history x → IsFound received x
+  pub in_waiting : (x : Slip) → IsFound w.waiting x → IsFound received x
+  pub rest : (x : Slip) → IsFound received x → Where w x
+  pub root : root_of w.first received ≡ last_of w.history
+
+-- two slips that the test finds equal
+pub same_slip_is : (a b : Slip) → same_slip a b ≡ true → a ≡ b
+same_slip_is a b e =
+    let b1 = eqb a.num b.num in
+    let b2 = b1 && same_id a.id b.id in
+    let b3 = b2 && eqb a.parent_num b.parent_num in
+    let b4 = b3 && same_id a.parent_id b.parent_id in
+    let b5 = b4 && eqb a.lib_num b.lib_num in
+    let b6 = b5 && eqb a.time b.time in
+    let b7 = b6 && eqb a.length b.length in
+    let p8 = and_parts b7 (bytes_eq a.digest b.digest) e in
+    let p7 = and_parts b6 (eqb a.length b.length) p8.0 in
+    let p6 = and_parts b5 (eqb a.time b.time) p7.0 in
+    let p5 = and_parts b4 (eqb a.lib_num b.lib_num) p6.0 in
+    let p4 = and_parts b3 (same_id a.parent_id b.parent_id) p5.0 in
+    let p3 = and_parts b2 (eqb a.parent_num b.parent_num) p4.0 in
+    let p2 = and_parts b1 (same_id a.id b.id) p3.0 in
+    let e1 : a.num ≡ b.num = eqb-true _ _ p2.0 in
+    let e2 : a.id ≡ b.id = same_id-true a.id b.id p2.1 in
+    let e3 : a.parent_num ≡ b.parent_num = eqb-true _ _ p3.1 in
+    let e4 : a.parent_id ≡ b.parent_id = same_id-true a.parent_id b.parent_id p4.1 in
+    let e5 : a.lib_num ≡ b.lib_num = eqb-true _ _ p5.1 in
+    let e6 : a.time ≡ b.time = eqb-true _ _ p6.1 in
+    let e7 : a.length ≡ b.length = eqb-true _ _ p7.1 in
+    let e8 : a.digest ≡ b.digest = (bytes_eq-Decides a.digest b.digest).0 p8.1 in
+    let y : record { num = a.num; id = a.id; parent_num = a.parent_num; parent_id = a.parent_id; lib_num = a.lib_num; time = a.time; length = a.length; digest = a.digest } ≡ b = rw (e1, e2, e3, e4, e5, e6, e7, e8) refl in
+    y
+
+pub same_slip_refl : (a : Slip) → same_slip a a ≡ true
+same_slip_refl a =
+    rw (eq-eqb a.num a.num refl, eq-eqb a.parent_num a.parent_num refl, eq-eqb a.lib_num a.lib_num refl, eq-eqb a.time a.time refl, eq-eqb a.length a.length refl, same_id_refl a.id, same_id_refl a.parent_id, (bytes_eq-Decides a.digest a.digest).1 refl) refl
+
+root_under_tip : (newest : List Slip) → IsHistory newest → root_num newest ≤ tip_num newest
+root_under_tip [] history = omega arith
+root_under_tip (s ∷ older) history = go (final_tip (s ∷ older)) refl
+  where
+    go : (o : Option Slip) → final_tip (s ∷ older) ≡ o → root_num (s ∷ older) ≤ num_of o
+    go None e = absurd (has_tip s older history e)
+    go (Some t) e =
+        let x = tip_claimed (s ∷ older) history t e in
+        root_least (s ∷ older) history t (claim_found (s ∷ older) history x.by t x.claimed)
+
+-- what a late block is
+limit_late : (w : World) (s : Slip) → judge_limit w s ≡ Late → ⊥
+limit_late w s e = grind (arith, e)
+
+clash_late : (w : World) (s : Slip) (o : Option Clash) → judge_clash w s o ≡ Late → ⊥
+clash_late w s None e = limit_late w s e
+clash_late w s (Some c) e = cc
+
+parent_late : (w : World) (s : Slip) (o : Option Slip) → judge_parent w s o ≡ Late → s.num ≤ tip_num w.history
+parent_late w s None e =
+    elim (cases_Bool (leb s.num (tip_num w.history))) [
+      | inl low ↦ leb-true _ _ low
+      | inr high ↦ absurd (grind (arith, e, high))
+    ]
+parent_late w s (Some p) e = absurd (clash_late w s (clash w.history s) e)
+
+pub record IsLate (w : World) (s : Slip) : Type 0 where
+  pub low : s.num ≤ tip_num w.history
+  pub begun : (t : Slip) × (older : List Slip) × (w.history ≡ t ∷ older)
+
+linked_late : (w : World) (s : Slip) → IsHistory w.history → (h : List Slip) → w.history ≡ h → judge_linked w s h ≡ Late → IsLate w s
+linked_late w s history [] is e = absurd (limit_late w s e)
+linked_late w s history (t ∷ older) is e =
+    elim (cases_Bool (leb s.num (root_num w.history))) [
+      | inl low ↦ let le = leb-true _ _ low in let up = root_under_tip w.history history in record { low = omega (arith, le, up); begun = (t, older, is) }
+      | inr high ↦ record { low = parent_late w s (find_id w.history s.parent_id) (rw high at e); begun = (t, older, is) }
+    ]
+
+held_late : (w : World) (s : Slip) → IsHistory w.history → (o : Option Slip) → judge_held w s o ≡ Late → IsLate w s
+held_late w s history (Some h) e = absurd (grind (arith, e))
+held_late w s history None e =
+    elim (cases_Bool (ltb s.num w.first)) [
+      | inl low ↦ absurd (grind (arith, e, low))
+      | inr high ↦ linked_late w s history w.history refl (rw high at e)
+    ]
+
+pub judged_late : (w : World) (s : Slip) → IsHistory w.history → judge w s ≡ Late → IsLate w s
+judged_late w s history e =
+    elim (cases_Bool w.closed) [
+      | inl shut ↦ absurd (grind (arith, e, shut))
+      | inr open' ↦ held_late w s history (find_id (w.waiting ++ w.history) s.id) (rw open' at e)
+    ]
+
+-- a block whose id is new and whose number is not too low is answered by the later rules
+abbrev is_inner : Verdict → Bool
+is_inner Shut = false
+is_inner Repeats = false
+is_inner (Clashes c) = true
+is_inner TooEarly = false
+is_inner Late = true
+is_inner NoRoom = true
+is_inner Waits = true
+is_inner (Passes need) = true
+is_inner Takes = true
+
+inner_limit : (w : World) (s : Slip) → is_inner (judge_limit w s) ≡ true
+inner_limit w s = elim (cases_Bool (leb (length w.history + (1 + descendants w.waiting s.id)) w.limits.history)) [ inl fits ↦ rw fits refl | inr more ↦ rw more refl ]
+
+inner_clash : (w : World) (s : Slip) (o : Option Clash) → is_inner (judge_clash w s o) ≡ true
+inner_clash w s None = inner_limit w s
+inner_clash w s (Some c) = refl
+
+inner_parent : (w : World) (s : Slip) (o : Option Slip) → is_inner (judge_parent w s o) ≡ true
+inner_parent w s None =
+    elim (cases_Bool (leb s.num (tip_num w.history))) [
+      | inl low ↦ rw low refl
+      | inr high ↦ elim (cases_Bool (has_room w.limits w.waiting s)) [ inl room ↦ rw (high, room) refl | inr none ↦ rw (high, none) refl ]
+    ]
+inner_parent w s (Some p) = inner_clash w s (clash w.history s)
+
+inner_linked : (w : World) (s : Slip) (h : List Slip) → is_inner (judge_linked w s h) ≡ true
+inner_linked w s [] = inner_limit w s
+inner_linked w s (t ∷ older) =
+    elim (cases_Bool (leb s.num (root_num w.history))) [
+      | inl low ↦ rw low refl
+      | inr high ↦ rw high (inner_parent w s (find_id w.history s.parent_id))
+    ]
+
+not_inner : (v u : Verdict) → is_inner v ≡ true → is_inner u ≡ false → v ≡ u → ⊥
+not_inner v u a b e = both_ways _ (ap is_inner e ∙ b) a
+
+-- an early one
+linked_early : (w : World) (s : Slip) (h : List Slip) → judge_linked w s h ≡ TooEarly → ⊥
+linked_early w s h e = not_inner _ TooEarly (inner_linked w s h) refl e
+
+held_early : (w : World) (s : Slip) (o : Option Slip) → judge_held w s o ≡ TooEarly → s.num < w.first
+held_early w s (Some h) e = absurd (grind (arith, e))
+held_early w s None e =
+    elim (cases_Bool (ltb s.num w.first)) [
+      | inl low ↦ ltb-true _ _ low
+      | inr high ↦ absurd (linked_early w s w.history (rw high at e))
+    ]
+
+pub judged_early : (w : World) (s : Slip) → judge w s ≡ TooEarly → s.num < w.first
+judged_early w s e =
+    elim (cases_Bool w.closed) [
+      | inl shut ↦ absurd (grind (arith, e, shut))
+      | inr open' ↦ held_early w s (find_id (w.waiting ++ w.history) s.id) (rw open' at e)
+    ]
+
+-- and a repeat
+judged_repeats : (w : World) (s : Slip) → judge w s ≡ Repeats → IsFound (w.waiting ++ w.history) s
+judged_repeats w s e =
+    elim (cases_Bool w.closed) [
+      | inl shut ↦ absurd (grind (arith, e, shut))
+      | inr open' ↦ go (find_id (w.waiting ++ w.history) s.id) refl (rw open' at e)
+    ]
+  where
+    go : (o : Option Slip) → find_id (w.waiting ++ w.history) s.id ≡ o → judge_held w s o ≡ Repeats → IsFound (w.waiting ++ w.history) s
+    go (Some h) held e' =
+        elim (cases_Bool (same_slip h s)) [
+          | inl same ↦ held ∙ ap (λ x. Some x) (same_slip_is h s same)
+          | inr other ↦ absurd (grind (arith, e', other))
+        ]
+    go None held e' =
+        elim (cases_Bool (ltb s.num w.first)) [
+          | inl low ↦ absurd (grind (arith, e', low))
+          | inr high ↦ absurd (not_inner _ Repeats (inner_linked w s w.history) refl (rw high at e'))
+        ]
+
+found_append : (xs ys : List Slip) (x : Slip) → IsFound (xs ++ ys) x → IsFound xs x ⊎ IsFound ys x
+found_append [] ys x f = inr f
+found_append (y ∷ xs) ys x f =
+    elim (found_cases y (xs ++ ys) x f) [
+      | inl same ↦ inl (subst (λ (z : Slip). find_id (y ∷ xs) z.id ≡ Some z) same (find_id_at y xs y.id (same_id_refl y.id)))
+      | inr below ↦ elim (cases_Bool (same_id y.id x.id)) [
+        | inl here ↦ inl (find_id_at y xs x.id here ∙ sym (find_id_at y (xs ++ ys) x.id here) ∙ f)
+        | inr past ↦ elim (found_append xs ys x below) [ inl l ↦ inl (find_id_past y xs x.id past ∙ l) | inr r ↦ inr r ]
+      ]
+    ]
+
+-- the root where one is there
+root_stays : (o : Option Slip) (r : Slip) (first : ℕ) (s : Slip) → o ≡ Some r → root_or o first s ≡ Some r
+root_stays o r first s e = rw e refl
+
+root_early : (o : Option Slip) (first : ℕ) (s : Slip) → s.num < first → root_or o first s ≡ o
+root_early (Some r) first s low = refl
+root_early None first s low = let no' : leb first s.num ≡ false = lt-not_leb first s.num low in rw no' refl
+  where
+    lt-not_leb : (a b : ℕ) → b < a → leb a b ≡ false
+    lt-not_leb a b h = false_from_ne_true _ (λ e. let le = leb-true a b e in omega (arith, le, h))
+
+pub last_some : (t : Slip) (older : List Slip) → (r : Slip) × (last_of (t ∷ older) ≡ Some r)
+last_some t [] = (t, refl)
+last_some t (x ∷ older) = last_some x older
+
+-- the root of what was received, where the history has begun
+root_begun : (w : World) (old new : List Slip) (s : Slip) → IsStep w.first old new s → root_of w.first old ≡ last_of w.history
+    → (t : Slip) × (older : List Slip) × (w.history ≡ t ∷ older) → root_of w.first new ≡ last_of w.history
+root_begun w old new s step is begun =
+    let r = last_some begun.0 begun.1 in
+    let e : last_of w.history ≡ Some r.0 = ap last_of begun.2 ∙ r.1 in
+    step.root ∙ root_stays (root_of w.first old) r.0 w.first s (is ∙ e) ∙ sym e
+
+found_longer : (more older : List Slip) → IsHistory (more ++ older) → (x : Slip) → IsFound older x → IsFound (more ++ older) x
+found_longer more older history x f = find_later more older history x.id (has_id-find_id older x.id x f) ∙ f
+
+step_takes : (w : World) (old new : List Slip) (s : Slip) → IsRun w old → IsStep w.first old new s → IsBlock s → judge w s ≡ Takes
+    → (intake w s).dropped ≡ [] → IsRun (world_by w s Takes) new
+step_takes w old new s run step block e dropped =
+    let d = intake w s in
+    let begun = first_intake w s in
+    let facts = judged_takes w s e in
+    let t0 = starts w s run.sound block facts in
+    let t = begins_taking w s run.sound block facts in
+    let m = moves (length w.waiting) begun t0 in
+    let own : IsFound d.history s = m.keeps s (find_id_at s w.history s.id (same_id_refl s.id)) in
+    let longer : IsSuffix (s ∷ w.history) d.history = taking_grows (length w.waiting) begun in
+    let grown : IsSuffix w.history d.history = IsSuffix-trans (s ∷ [], refl) longer in
+    let higher : tip_num w.history ≤ tip_num d.history =
+    subst (λ (l : List Slip). tip_num w.history ≤ tip_num l) grown.1 (tip_rises grown.0 w.history (subst IsHistory (sym grown.1) t.history)) in
+    let ends : last_of d.history ≡ last_of (s ∷ w.history) = ap last_of (sym longer.1) ∙ last_append longer.0 s w.history in
+    record {
+      sound = keeps_by w s run.sound block Takes e;
+      in_history = λ x f. elim (m.from x f) [
+        | inl h ↦ elim (found_cases s w.history x h) [ inl same ↦ subst (IsFound new) same step.has | inr was ↦ step.keeps x (run.in_history x was) ]
+        | inr r ↦ step.keeps x (run.in_waiting x r)
+      ];
+      in_waiting = λ x f. step.keeps x (run.in_waiting x (m.back x (found_filter (λ (y : Slip). ltb (tip_num d.history) y.num) d.waiting t.distinct x f).0));
+      rest = λ x f. elim (step.from x f) [
+        | inl same ↦ inr (inl (subst (IsFound d.history) (sym same) own))
+        | inr was ↦ elim (run.rest x was) [
+          | inl early ↦ inl early
+          | inr (inl h) ↦ inr (inl (m.keeps x (found_past s w.history t0.history x h)))
+          | inr (inr (inl r)) ↦ elim (m.stays x dropped r) [
+            | inl h ↦ inr (inl h)
+            | inr still ↦ elim (cases_Bool (ltb (tip_num d.history) x.num)) [
+              | inl above ↦ inr (inr (inl (filter_found (λ (y : Slip). ltb (tip_num d.history) y.num) d.waiting t.distinct x still above)))
+              | inr below ↦ inr (inr (inr (ltb-false _ _ below)))
+            ]
+          ]
+          | inr (inr (inr low)) ↦ inr (inr (inr (omega (arith, low, higher))))
+        ]
+      ];
+      root = rooted w.history refl facts.new.late step.root run.root ∙ sym ends;
+    }
+  where
+    rooted : (h : List Slip) → w.history ≡ h → w.first ≤ s.num → root_of w.first new ≡ root_or (root_of w.first old) w.first s → root_of w.first old ≡ last_of w.history
+        → root_of w.first new ≡ last_of (s ∷ w.history)
+    rooted [] is late grows was =
+        let none : root_of w.first old ≡ None = was ∙ ap last_of is in
+        grows ∙ ap (λ o. root_or o w.first s) none ∙ first_root (leb w.first s.num) (le-leb _ _ late) ∙ ap (λ l. last_of (s ∷ l)) (sym is)
+      where
+        first_root : (b : Bool) → b ≡ true → cond b (Some s) None ≡ Some s
+        first_root b h = rw h refl
+    rooted (x ∷ older) is late grows was =
+        let r = last_some x older in
+        let e' : last_of w.history ≡ Some r.0 = ap last_of is ∙ r.1 in
+        grows ∙ root_stays (root_of w.first old) r.0 w.first s (was ∙ e') ∙ sym (ap (λ l. last_of (s ∷ l)) is ∙ r.1)
+
+-- a block waits only where the history has begun
+begun_linked : (w : World) (s : Slip) (h : List Slip) → w.history ≡ h → judge_linked w s h ≡ Waits → (t : Slip) × (older : List Slip) × (w.history ≡ t ∷ older)
+begun_linked w s [] is e = absurd (limit_takes w s e)
+begun_linked w s (t ∷ older) is e = (t, older, is)
+
+begun_held : (w : World) (s : Slip) (o : Option Slip) → judge_held w s o ≡ Waits → (t : Slip) × (older : List Slip) × (w.history ≡ t ∷ older)
+begun_held w s (Some h) e = absurd (grind (arith, e))
+begun_held w s None e =
+    elim (cases_Bool (ltb s.num w.first)) [
+      | inl low ↦ absurd (grind (arith, e, low))
+      | inr high ↦ begun_linked w s w.history refl (rw high at e)
+    ]
+
+begun_waits : (w : World) (s : Slip) → judge w s ≡ Waits → (t : Slip) × (older : List Slip) × (w.history ≡ t ∷ older)
+begun_waits w s e =
+    elim (cases_Bool w.closed) [
+      | inl shut ↦ absurd (grind (arith, e, shut))
+      | inr open' ↦ begun_held w s (find_id (w.waiting ++ w.history) s.id) (rw open' at e)
+    ]
+
+step_by : (w : World) (old new : List Slip) (s : Slip) → IsRun w old → IsStep w.first old new s → IsBlock s → (v : Verdict) → judge w s ≡ v
+    → is_ok (answer_by w s v) ≡ true → dropped_by (answer_by w s v) ≡ [] → IsRun (world_by w s v) new
+step_by w old new s run step block Shut e ok dropped = absurd (grind (arith, ok))
+step_by w old new s run step block Repeats e ok dropped =
+    let held : IsFound old s = elim (found_append w.waiting w.history s (judged_repeats w s e)) [ inl r ↦ run.in_waiting s r | inr h ↦ run.in_history s h ] in
+    let here : Where w s = run.rest s held in
+    record {
+      sound = run.sound;
+      in_history = λ x f. step.keeps x (run.in_history x f);
+      in_waiting = λ x f. step.keeps x (run.in_waiting x f);
+      rest = λ x f. elim (step.from x f) [ inl same ↦ subst (Where w) (sym same) here | inr was ↦ run.rest x was ];
+      root = step.again held ∙ run.root;
+    }
+step_by w old new s run step block (Clashes c) e ok dropped = absurd (grind (arith, ok))
+step_by w old new s run step block TooEarly e ok dropped =
+    let low = judged_early w s e in
+    record {
+      sound = run.sound;
+      in_history = λ x f. step.keeps x (run.in_history x f);
+      in_waiting = λ x f. step.keeps x (run.in_waiting x f);
+      rest = λ x f. elim (step.from x f) [ inl same ↦ subst (Where w) (sym same) (inl low) | inr was ↦ run.rest x was ];
+      root = step.root ∙ root_early (root_of w.first old) w.first s low ∙ run.root;
+    }
+step_by w old new s run step block Late e ok dropped =
+    let late = judged_late w s run.sound.history e in
+    record {
+      sound = run.sound;
+      in_history = λ x f. step.keeps x (run.in_history x f);
+      in_waiting = λ x f. step.keeps x (run.in_waiting x f);
+      rest = λ x f. elim (step.from x f) [ inl same ↦ subst (Where w) (sym same) (inr (inr (inr late.low))) | inr was ↦ run.rest x was ];
+      root = root_begun w old new s step run.root late.begun;
+    }
+step_by w old new s run step block NoRoom e ok dropped = absurd (grind (arith, ok))
+step_by w old new s run step block Waits e ok dropped =
+    let facts = judged_waits w s e in
+    let new' = new_parts w s facts.new in
+    let more = λ (x : Slip) (f : IsFound w.waiting x).
+    find_id_past s w.waiting x.id (other x f new'.0) ∙ f in
+    record {
+      sound = keeps_by w s run.sound block Waits e;
+      in_history = λ x f. step.keeps x (run.in_history x f);
+      in_waiting = λ x f. elim (found_cases s w.waiting x f) [ inl same ↦ subst (IsFound new) same step.has | inr was ↦ step.keeps x (run.in_waiting x was) ];
+      rest = λ x f. elim (step.from x f) [
+        | inl same ↦ inr (inr (inl (subst (IsFound (s ∷ w.waiting)) (sym same) (find_id_at s w.waiting s.id (same_id_refl s.id)))))
+        | inr was ↦ elim (run.rest x was) [
+          | inl early ↦ inl early
+          | inr (inl h) ↦ inr (inl h)
+          | inr (inr (inl r)) ↦ inr (inr (inl (more x r)))
+          | inr (inr (inr low)) ↦ inr (inr (inr low))
+        ]
+      ];
+      root = root_begun w old new s step run.root (begun_waits w s e);
+    }
+  where
+    other : (x : Slip) → IsFound w.waiting x → has_id w.waiting s.id ≡ false → same_id s.id x.id ≡ false
+    other x f lacks = false_from_ne_true _ (λ same. both_ways _ (subst (λ (i : List ℕ). has_id w.waiting i ≡ false) (same_id-true s.id x.id same) lacks) (has_id-find_id w.waiting x.id x f))
+step_by w old new s run step block (Passes need) e ok dropped = absurd (grind (arith, ok))
+step_by w old new s run step block Takes e ok dropped = step_takes w old new s run step block e (empty (intake w s).dropped dropped)
+  where
+    empty : (xs : List Clash) → reverse xs ≡ [] → xs ≡ []
+    empty xs h = sym (reverse-reverse xs) ∙ ap reverse h
+
+-- one more offer that was answered Ok and dropped nothing
+pub run_step : (w : World) (old new : List Slip) (s : Slip) → IsRun w old → IsStep w.first old new s → IsBlock s
+    → is_ok (offered w s).answer ≡ true → dropped_by (offered w s).answer ≡ [] → IsRun (offered w s).world new
+run_step w old new s run step block ok dropped = step_by w old new s run step block (judge w s) refl ok dropped

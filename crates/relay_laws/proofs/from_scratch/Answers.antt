@@ -1,0 +1,5 @@
+use Rattle.relay_laws.proofs.FromScratch.{from_scratch}
+use Rattle.relay_laws.proofs.from_scratch.Goals as goal
+
+pub returns : goal.returns
+returns c = from_scratch

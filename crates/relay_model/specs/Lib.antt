@@ -1,0 +1,9 @@
+pub mod Worlds
+pub mod Offers
+pub mod Looks
+pub mod Chronicles
+pub mod Soundness
+pub mod Orders
+pub mod Runs
+pub mod Laws
+pub mod Tables
