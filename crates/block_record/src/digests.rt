@@ -21,3 +21,30 @@ pub fn slip_of(alloc: Global, block: &Block) -> Result<Slip, AllocError>
         digest: block.digest,
     })
 }
+
+/// The block's slip, made of the block's own ids. It takes no memory.
+pub fn into_slip(block: Block) -> Slip
+    ensures { result ≡ slip block }
+{
+    let Block {
+        num,
+        id,
+        parent_num,
+        parent_id,
+        lib_num,
+        time,
+        payload,
+        digest,
+        ..
+    } = block;
+    Slip {
+        num,
+        id,
+        parent_num,
+        parent_id,
+        lib_num,
+        time,
+        length: payload.as_bytes().len() as u32,
+        digest,
+    }
+}
