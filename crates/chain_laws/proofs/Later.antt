@@ -42,7 +42,7 @@ ancestry_later (s ∷ more) older history j h =
 has_held : (newest : List Slip) (r : BlockRef) → IsHeld newest r → has_id newest r.id ≡ true
 has_held newest r h = let s = some_and _ _ h in has_id-find_id newest r.id s.0 s.1
 
-held_later : (more older : List Slip) → IsHistory (more ++ older) → (r : BlockRef) → IsHeld older r → IsHeld (more ++ older) r
+pub held_later : (more older : List Slip) → IsHistory (more ++ older) → (r : BlockRef) → IsHeld older r → IsHeld (more ++ older) r
 held_later more older history r h = rw (find_later more older history r.id (has_held older r h)) h
 
 pub fits_later : (more older : List Slip) → IsHistory (more ++ older) → ClaimsAgree (more ++ older) → (end lib : Option BlockRef) → PlaceFits older end lib → PlaceFits (more ++ older) end lib

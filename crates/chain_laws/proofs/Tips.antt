@@ -108,10 +108,11 @@ agrees_right newest x y h = either (on_path newest x y) (on_path newest y x) h
     either : (p q : Bool) → q ≡ true → (p || q) ≡ true
     either p q e = grind (arith, e)
 
-on_one_path : (newest : List Slip) → IsHistory newest → (t x y : Slip) → IsFound newest x → IsFound newest y → has_id (ancestry newest t.id) x.id ≡ true → has_id (ancestry newest t.id) y.id ≡ true → agrees newest x y ≡ true
-on_one_path newest history t x y fx fy hx hy =
-    let lx = (is_above newest history t.id x.id hx).line in
-    let ly = (is_above newest history t.id y.id hy).line in
+-- two blocks on one path agree
+pub on_one_path : (newest : List Slip) → IsHistory newest → (id : List ℕ) (x y : Slip) → IsFound newest x → IsFound newest y → has_id (ancestry newest id) x.id ≡ true → has_id (ancestry newest id) y.id ≡ true → agrees newest x y ≡ true
+on_one_path newest history id x y fx fy hx hy =
+    let lx = (is_above newest history id x.id hx).line in
+    let ly = (is_above newest history id y.id hy).line in
     elim (suffix_total lx.0 ly.0 _ _ (lx.1 ∙ sym ly.1)) [
       | inl under ↦ agrees_left newest x y (has_id-suffix _ _ x.id under (itself_on_path newest x fx))
       | inr over ↦ agrees_right newest x y (has_id-suffix _ _ y.id over (itself_on_path newest y fy))
@@ -139,7 +140,7 @@ next_agrees s older history agreed c t b y fc is says fb cy =
     let past : ancestry (s ∷ older) t.id ≡ ancestry older t.id = ancestry_past s older t.id (other_id s older history t.id (has_id-find_id older t.id t ft)) in
     let hy : has_id (ancestry (s ∷ older) t.id) y.id ≡ true = rw past (claim_final older rest agreed t b y is fb cy) in
     elim (or_cases _ _ says) [
-      | inl under ↦ on_one_path (s ∷ older) history t c y fc fy under hy
+      | inl under ↦ on_one_path (s ∷ older) history t.id c y fc fy under hy
       | inr over ↦ agrees_right (s ∷ older) c y (has_id-suffix _ _ y.id (is_above (s ∷ older) history c.id t.id over).line hy)
     ]
 

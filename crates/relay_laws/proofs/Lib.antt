@@ -1,4 +1,4 @@
-pub mod OnePath
+pub mod EitherTest
 pub mod TwoHistories
 pub mod Moves
 pub mod RunFacts

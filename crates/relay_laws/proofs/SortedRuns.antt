@@ -28,7 +28,7 @@ use Rattle.relay_model.proofs.Intakes.{all_filter, taking_grows}
 use Rattle.relay_model.proofs.Judged.{IsWaiting, judged_takes, judged_waits}
 use Rattle.relay_model.proofs.Sound.{first_intake, starts, begins_taking, ends_taking, new_parts}
 use Rattle.relay_model.proofs.Entries.{distinct_found}
-use Rattle.relay_laws.proofs.OnePath.{on_one_path}
+use Rattle.chain_laws.proofs.Tips.{on_one_path}
 use Rattle.relay_laws.proofs.Moves.{Moves, moves}
 use Rattle.relay_laws.proofs.RunFacts.{last_of, last_append, IsStep, IsRun, Where, run_step}
 use Rattle.relay_laws.proofs.RunSteps.{no_root, run_of, block_step, rest_one, once_distinct, empty_both}

@@ -20,7 +20,7 @@ use Rattle.chain_laws.proofs.Growth.{IsFound}
 use Rattle.chain_laws.proofs.LineFacts.{first_is_found}
 use Rattle.chain_laws.proofs.Walks.{Walks, Walk, next, walk_fits}
 use Rattle.chain_laws.proofs.Starts.{start}
-use Rattle.chain_laws.proofs.Later.{history_older, find_later, fits_later}
+use Rattle.chain_laws.proofs.Later.{history_older, find_later, held_later, fits_later}
 use Rattle.step_cursor.specs.declared.cursor.Cursor.{Cursor}
 use Rattle.step_cursor.specs.declared.cursor.Request.{Request}
 use Rattle.step_cursor.specs.declared.cursor.MisfitField.TheVariants as field
@@ -62,9 +62,6 @@ undo_end newest goal base place slip xs [] free [] (b ∷ finals) news counted l
 undo_end newest goal base place slip xs [] free [] [] (c ∷ news) counted lowest w = let e = w.steps_are in absurd (grind (arith, e))
 undo_end newest goal base place slip xs [] free [] [] [] counted lowest w = let e = w.steps_are in absurd (grind (arith, e))
 
-held_more : (more older : List Slip) → IsHistory (more ++ older) → (r : BlockRef) → IsHeld older r → IsHeld (more ++ older) r
-held_more more older history r h = rw (find_later more older history r.id (held_is older r h).1) h
-
 given_go : (more older : List Slip) (kind : Step) (slip : Slip) (end lib : Option BlockRef) → IsHistory (more ++ older) → ClaimsAgree (more ++ older) → PlaceFits older end lib
     → PlaceFits (more ++ older) (place_after (record { end = end; lib = lib }) (block_step kind slip)).end (place_after (record { end = end; lib = lib }) (block_step kind slip)).lib
     → (kind ≡ step.Undo → (end ≡ Some (ref_of slip)) × IsFound older slip) → IsGiven (more ++ older) kind (ref_of slip) (place_after (record { end = end; lib = lib }) (block_step kind slip))
@@ -91,7 +88,7 @@ given_go more older step.Undo slip (Some r) (Some l) history agreed fits after u
       end_is = refl;
       lib_is = refl;
       fits = after;
-      held = held_more more older history (ref_of slip) (subst (IsHeld older) same fits.end_held);
+      held = held_later more older history (ref_of slip) (subst (IsHeld older) same fits.end_held);
       shape = ap (λ o. ends_at_parent (Some (parent_of slip)) o) later ∙ same_ref_refl (parent_of slip);
     }
 
