@@ -190,7 +190,8 @@ fn push_all(
         assert!(rt; 0 < tree.room());
         assert!(rt; may_follow(tree, &slip));
         let at = tree.len();
-        assert_eq!(rt; tree.push(slip), at);
+        let parent = tree.find(&slip.parent_id);
+        assert_eq!(rt; tree.push(slip, parent), at);
     }
     Ok(())
 }

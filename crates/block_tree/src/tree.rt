@@ -109,17 +109,18 @@ impl BlockTree {
         self.slips.reserve(more)
     }
 
-    /// Appends a block that may come next, and gives its place.
-    pub fn push(&mut self, slip: Slip) -> usize
+    /// Appends a block that may come next, and gives its place. `parent` is its parent's place, and
+    /// none for the first block.
+    pub fn push(&mut self, slip: Slip, parent: Option<usize>) -> usize
         requires room { 0 < self.old.room }
         requires next { IsHistory (slip ∷ self.old.history) }
+        requires parent { place_of self.old.history slip.parent_id ≡ parent }
         ensures history { self.new.history ≡ slip ∷ self.old.history }
         ensures place { result ≡ length self.old.history }
         ensures small { result < 134217728 }
         ensures room { self.new.room + 1 ≡ self.old.room }
     {
         let at = self.slips.len();
-        let parent = self.slips.find(&slip.parent_id);
         self.slips.push(slip);
         self.rows.push(parent);
         at

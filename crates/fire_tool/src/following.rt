@@ -6,7 +6,7 @@ ghost use Rattle.block_record.specs.declared.blocks.Slip.{Slip};
 ghost use Rattle.chain_model.specs.Ancestry.{IsHistory};
 ghost use Rattle.chain_model.specs.declared.places.Mode.{Mode as ModeOf};
 ghost use Rattle.chain_model.specs.declared.places.Mode.TheVariants as mode;
-ghost use Rattle.chain_model.specs.Places.{no_place, place_to};
+ghost use Rattle.chain_model.specs.Places.{PlaceFits, no_place, place_to};
 ghost use Rattle.chain_model.specs.Steps.{steps_of, plain_of};
 ghost use Rattle.fire_tool.specs.Following.{admits};
 ghost use Rattle.step_text.specs.Offers.{judge, judge_room};
@@ -16,13 +16,13 @@ ghost use Rattle.fork_db.specs.Batches.{IsGiven, WasGiven};
 ghost use Rattle.fork_db.specs.declared.db.Verdict.TheVariants as verdict;
 ghost use Rattle.fork_db.specs.Verdicts.{verdict_of, fits};
 
-use block_record::{Block, BlockRef, Slip, slip_of};
+use block_record::{Block, BlockRef, Slip, into_slip, slip_of};
 use chain_model::{Mode, Place};
 use fork_db::{Batch, ForkDb};
 use link_rows::Steps;
 use std::alloc::{AllocError, Global};
 use std::marker::{Brand, Model};
-use std::sync::Arc;
+use std::mem;
 use std::sync::ledger::{Blank, Ledger};
 use step_text::{ConflictKind, HISTORY_BLOCKS_MAX, Refusal, Verdict, contradiction, push_line};
 
@@ -54,10 +54,7 @@ impl Follower {
     {
         Ok(Follower {
             db: ForkDb::new(alloc, HISTORY_BLOCKS_MAX)?,
-            place: Place {
-                end: None,
-                lib: None,
-            },
+            place: nowhere(),
         })
     }
 
@@ -100,25 +97,19 @@ impl Follower {
         if !is_admitted(&verdict) {
             return refusal_by(verdict, &block);
         }
-        self.append(alloc, block)?;
+        self.append(block)?;
         self.tell_by::<Brand>(text, Blank::new(1))?;
         Ok(None)
     }
 
     /// Appends a block that may come next. Its payload is let go, since no rule needs it any more.
-    fn append(&mut self, alloc: Global, block: Block) -> Result<(), AllocError>
+    fn append(&mut self, block: Block) -> Result<(), AllocError>
         requires fits { verdict_of self.old.history (slip block) ≡ fits }
         ensures history { OnOk result (self.new.history ≡ slip block ∷ self.old.history) }
         ensures place { OnOk result (self.new.place ≡ self.old.place) }
     {
-        let slip = slip_of(alloc, &block)?;
-        let block = Arc::new(alloc, block)?;
-        match self.db.append(slip, block) {
-            Ok(_) => {
-                let newest = self.db.len() - 1;
-                self.db.release(newest as usize);
-                Ok(())
-            }
+        match self.db.append_slip(into_slip(block)) {
+            Ok(_) => Ok(()),
             Err(_) => Err(AllocError),
         }
     }
@@ -134,12 +125,42 @@ impl Follower {
         ensures text { OnOk result (text.new.items ≡ text.old.items
             ++ step_lines (map plain_of (steps_of self.old.history self.old.place mode.Live None))) }
     {
-        let mut links = Steps::<L>::new(blank);
-        let batch = self.db.batch(&self.place, Mode::Live, None, &mut links)?;
-        push_steps(&self.db, &batch, text)?;
-        self.place = self.db.place_after(&batch, self.db.step_count(&batch))?;
+        let place = mem::replace(&mut self.place, nowhere());
+        self.place = tell_from::<L>(&self.db, place, text, blank)?;
         Ok(())
     }
+}
+
+/// The place of a client that has received nothing.
+fn nowhere() -> Place
+    ensures { result ≡ no_place }
+{
+    Place {
+        end: None,
+        lib: None,
+    }
+}
+
+/// Tells the steps from a place to the head, and gives the place that they lead to.
+fn tell_from<L: Ledger>(
+    db: &ForkDb,
+    place: Place,
+    text: &mut Vec<u8>,
+    blank: Blank,
+) -> Result<Place, AllocError>
+    requires fits { PlaceFits db.now.history place.end place.lib }
+    requires name { blank.name ≡ L.name }
+    requires parts { blank.parts ≡ L.parts }
+    requires more { 0 < L.parts }
+    ensures place { IfOk result (λ p. p ≡ place_to db.now.history place mode.Live None) }
+    ensures text { OnOk result (text.new.items ≡ text.old.items
+        ++ step_lines (map plain_of (steps_of db.now.history place mode.Live None))) }
+{
+    let mut links = Steps::<L>::new(blank);
+    let batch = db.batch_from(place, Mode::Live, None, &mut links);
+    push_steps(db, &batch, text)?;
+    let place = db.place_after_all(batch)?;
+    Ok(place)
 }
 
 /// Appends the lines of the steps of a batch.

@@ -359,14 +359,18 @@ batch_lens newest history end lib m stop fits ahead last tip el et held wanted c
     (ef ∙ ap (λ o. min wanted (length (ancestry_of newest o))) et)
 
 pub batch_is : (newest : List Slip) (m : Mode) (stop : Option ℕ) (b : Batch) (held wanted common known finals u fk fa ga : ℕ) → b.seen ≡ length newest
-    → slip_of newest b.target ≡ first_of (target newest m stop)
+    → slip_of newest b.target ≡ first_of (target newest m stop) → slip_of newest b.end ≡ first_of (ancestry_at newest b.place.end)
+    → b.held ≡ length (ancestry_at newest b.place.end) → b.known ≡ length (ancestry_at newest b.place.lib)
     → u ≡ length (undone (ancestry_at newest b.place.end) (target newest m stop))
     → fk ≡ length (filter (is_final newest) (keep_while (is_after b.place.lib) (kept (ancestry_at newest b.place.end) (target newest m stop))))
     → fa ≡ length (filter (is_final newest) (added (ancestry_at newest b.place.end) (target newest m stop)))
     → ga ≡ length (filter (λ s. not (is_final newest s)) (added (ancestry_at newest b.place.end) (target newest m stop)))
     → Sums held wanted common known finals u fk fa ga → Sums held wanted common known finals b.undos b.finals b.newfinals b.news → IsBatch newest m stop b
-batch_is newest m stop b held wanted common known finals u fk fa ga seen last eu ek ea eg s t = record {
+batch_is newest m stop b held wanted common known finals u fk fa ga seen last ends long knows eu ek ea eg s t = record {
   seen = seen;
   last = last;
+  end = ends;
+  held = long;
+  known = knows;
   counts = counts_are (final_ancestry newest) (ancestry_at newest b.place.end) b.place.lib (target newest m stop) held wanted common known finals u fk fa ga b.undos b.finals b.newfinals b.news eu ek ea eg s t;
 }

@@ -1,8 +1,9 @@
 -- Blocks that are held.
-use Rattle.std.proofs.Common.{arith, ◌≡◌, ◌<◌, ℕ, List, [], ◌∷◌, ◌++◌, length, Option, Some, None, refl, sym, ◌∙◌, ap, subst, suc, zero, set, ◌+◌, ◌⊎◌, inl, inr}
+use Rattle.std.proofs.Common.{arith, ◌≡◌, ◌<◌, ℕ, List, [], ◌∷◌, ◌++◌, length, Option, Some, None, refl, sym, ◌∙◌, ap, subst, suc, zero, set, ◌+◌, ◌⊎◌, inl, inr, IfSome}
 use Rattle.std.proofs.lemmas.List.{length-append, length-set}
 use Rattle.std.proofs.lemmas.Option.{same_Some, slice_get_within}
 use Rattle.std.specs.List.{slice_get}
+use Rattle.std.specs.Option.{option_map}
 use Rattle.block_record.specs.declared.blocks.Slip.{Slip}
 use Rattle.block_record.specs.declared.blocks.Block.{Block}
 use Rattle.block_record.specs.Slips.{slip}
@@ -19,13 +20,19 @@ new_or_old [] x (suc at) b e = absurd (grind arith)
 new_or_old (y ∷ xs) x zero b e = inl e
 new_or_old (y ∷ xs) x (suc at) b e = elim (new_or_old xs x at b e) [ inl f ↦ inl f | inr f ↦ inr (let g : suc at ≡ length (y ∷ xs) = omega (arith, f.0) in g, f.1) ]
 
--- the next block is held
-pub held_push : (newest all : List Slip) (s : Slip) (held more : List (Option Block)) (b : Block) → all ≡ s ∷ newest → more ≡ held ++ Some b ∷ [] → s ≡ slip b → HoldsOwn newest held → HoldsOwn all more
-held_push newest all s held more b e em es h = record {
-  len = ap length em ∙ length_push held (Some b) ∙ (let f : length held + 1 ≡ length all = omega (arith, h.len, ap length e) in f);
-  own = λ at x f. elim (new_or_old held (Some b) at x (ap (λ l. slice_get l at) (sym em) ∙ f)) [
+-- the block that is kept, where there is one, has the slip
+pub slip_held : {A : Type 0} (value : A → Block) (o : Option A) (s : Slip) → IfSome o (λ a. s ≡ slip (value a)) → (x : Block) → option_map value o ≡ Some x → s ≡ slip x
+slip_held value None s h x e = absurd (grind arith)
+slip_held value (Some a) s h x e = h ∙ ap slip (same_Some (value a) x e)
+
+-- the next block is held, or not
+pub held_push : (newest all : List Slip) (s : Slip) (held more : List (Option Block)) (kept : Option Block) → all ≡ s ∷ newest → more ≡ held ++ kept ∷ []
+    → ((x : Block) → kept ≡ Some x → s ≡ slip x) → HoldsOwn newest held → HoldsOwn all more
+held_push newest all s held more kept e em es h = record {
+  len = ap length em ∙ length_push held kept ∙ (let f : length held + 1 ≡ length all = omega (arith, h.len, ap length e) in f);
+  own = λ at x f. elim (new_or_old held kept at x (ap (λ l. slice_get l at) (sym em) ∙ f)) [
     | inl old ↦ ap (λ l. slip_at l at) e ∙ slip_at_past s newest at (subst (λ n. at < n) h.len (slice_get_within held at (Some x) old)) ∙ h.own at x old
-    | inr top ↦ ap (λ l. slip_at l at) e ∙ ap (slip_at (s ∷ newest)) (top.0 ∙ h.len) ∙ slip_at_top s newest ∙ ap Some (es ∙ ap slip (same_Some b x top.1))
+    | inr top ↦ ap (λ l. slip_at l at) e ∙ ap (slip_at (s ∷ newest)) (top.0 ∙ h.len) ∙ slip_at_top s newest ∙ ap Some (es x top.1)
   ];
 }
 

@@ -97,6 +97,9 @@ pub record Runs (newest : List Slip) (b : Batch) (steps : List BlockStep) : Type
   pub steps_are : steps ≡ map (block_step step.Undo) us ++ (map (block_step step.Final) fs ++ (map (block_step step.NewFinal) ns ++ map (block_step step.New) ws))
   pub total : step_total b ≤ 2 * length newest
   pub held : b.undos ≤ length (ancestry_at newest b.place.end)
+  pub held_is : b.held ≡ length (ancestry_at newest b.place.end)
+  pub known_is : b.known ≡ length (ancestry_at newest b.place.lib)
+  pub end_line : 0 < b.undos → ancestry_of newest (slip_of newest b.end) ≡ ancestry_at newest b.place.end
   pub undo_line : (i j : ℕ) → i < b.undos → i + j + 1 ≡ length (ancestry_at newest b.place.end) → slice_get (reverse (ancestry_at newest b.place.end)) j ≡ slice_get us i
   pub final_line : (i j : ℕ) → i < b.finals → j ≡ length (ancestry_at newest b.place.lib) + i → slice_get (reverse (ancestry_of newest (slip_of newest b.target))) j ≡ slice_get fs i
   pub new_line : (i j : ℕ) → i < b.newfinals + b.news → j + b.undos ≡ length (ancestry_at newest b.place.end) + i
@@ -150,6 +153,9 @@ runs_go more older m stop b history given =
       steps_are = append_assoc (undos ++ fins) newfins news ∙ append_assoc undos fins (newfins ++ news);
       total = omega (arith, c.undo, c.final, c.newfinal, c.new_, K_sum, A_sum, E_parts, T_parts, line_most older E (end_line older before end), line_most older T line, length-append more older);
       held = omega (arith, c.undo, n_end, E_parts);
+      held_is = given.batch.held ∙ sym n_end;
+      known_is = given.batch.known ∙ ap length (sym later.1);
+      end_line = λ pos. target_go more older E history (end_line older before end) b.end given.batch.end (omega (arith, pos, c.undo, E_parts)) ∙ sym later.0;
       undo_line = λ i j lt at.
           ap (λ l. slice_get (reverse l) j) later.0 ∙ slice_get-turned E i j (at ∙ n_end) ∙ ap (λ l. slice_get l i) p.held_is
           ∙ slice_get-left U (K ++ L) i (omega (arith, c.undo, lt));

@@ -26,10 +26,13 @@ pub record HasCounts (path held : List Slip) (lib : Option BlockRef) (wanted : L
   pub newfinal : newfinals ≡ length (filter (λ s. has_id path s.id) (added held wanted))
   pub new_ : news ≡ length (filter (λ s. not (has_id path s.id)) (added held wanted))
 
--- the batch is the steps from its place to the target: how long the history is, the target's last block, and how many steps there are of each kind
+-- the batch is the steps from its place to the target: how long the history is, the last block of the target and of the client, how long the paths to the end and to the lib are, and how many steps there are of each kind
 pub record IsBatch (newest : List Slip) (mode : Mode) (stop : Option ℕ) (b : Batch) : Type 0 where
   pub seen : b.seen ≡ length newest
   pub last : slip_of newest b.target ≡ first_of (target newest mode stop)
+  pub end : slip_of newest b.end ≡ first_of (ancestry_at newest b.place.end)
+  pub held : b.held ≡ length (ancestry_at newest b.place.end)
+  pub known : b.known ≡ length (ancestry_at newest b.place.lib)
   pub counts : HasCounts (final_ancestry newest) (ancestry_at newest b.place.end) b.place.lib (target newest mode stop) b.undos b.finals b.newfinals b.news
 
 -- the batch was made when the history was the older one: its place fitted, and the stop was not below the place's end

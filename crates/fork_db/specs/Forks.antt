@@ -4,6 +4,8 @@ use Rattle.std.specs.List.{slice_get}
 use Rattle.block_record.specs.declared.blocks.Slip.{Slip}
 use Rattle.block_record.specs.declared.blocks.Block.{Block}
 use Rattle.block_record.specs.Slips.{slip}
+use Rattle.chain_model.specs.Ancestry.{IsHistory}
+use Rattle.chain_model.specs.Finality.{ClaimsAgree}
 use Rattle.block_tree.specs.Places.{slip_at}
 
 -- the history with its newest block first, the blocks by place with those that are still held, for how many more blocks there is room, and how many blocks there may be
@@ -18,8 +20,10 @@ pub record HoldsOwn (history : List Slip) (held : List (Option Block)) : Type 0 
   pub len : length held ≡ length history
   pub own : (at : ℕ) (b : Block) → slice_get held at ≡ Some (Some b) → slip_at history at ≡ Some (slip b)
 
--- one more block is there, and is held
-pub record IsAppended (old new : Forks) (b : Block) : Type 0 where
-  pub history : new.history ≡ slip b ∷ old.history
-  pub held : new.held ≡ old.held ++ Some b ∷ []
+-- one more block is there, which is held where it was given; the history stays one whose claims agree
+pub record IsAppended (old new : Forks) (s : Slip) (kept : Option Block) : Type 0 where
+  pub history : new.history ≡ s ∷ old.history
+  pub sound : IsHistory new.history
+  pub agreed : ClaimsAgree new.history
+  pub held : new.held ≡ old.held ++ kept ∷ []
   pub limit : new.limit ≡ old.limit

@@ -25,6 +25,12 @@ pub struct Batch {
     pub place: Place,
     /// The place of the target's last block in the history. None for a target without blocks.
     pub target: Option<usize>,
+    /// The place of the end in the history. None for a client without blocks.
+    pub end: Option<usize>,
+    /// How many blocks the path of the end has.
+    pub held: u64,
+    /// How many blocks the client knows to be final.
+    pub known: u64,
     /// How many blocks are taken back.
     pub undos: u64,
     /// How many blocks that the client has are final.
@@ -44,9 +50,10 @@ pub struct Counts {
     news: u64,
 }
 
-/// How many blocks some paths have.
+/// How many blocks some paths have, and where the client's ends.
 #[derive(Clone, Copy)]
 pub struct Lengths {
+    end: Option<usize>,
     held: u64,
     wanted: u64,
     common: u64,
@@ -167,6 +174,8 @@ fn path_lengths<L: Ledger>(
     target: Option<usize>,
     steps: &mut Steps<L>,
 ) -> Lengths
+    ensures end { slip_of tree.now.history result.end
+        ≡ first_of (ancestry_at tree.now.history place.now.end) }
     ensures held { result.held ≡ length (ancestry_at tree.now.history place.now.end) }
     ensures wanted { result.wanted
         ≡ length (ancestry_of tree.now.history (slip_of tree.now.history target)) }
@@ -182,6 +191,7 @@ fn path_lengths<L: Ledger>(
     let wanted = path_len(tree, target);
     let final_len = path_len(tree, tip);
     Lengths {
+        end,
         held: path_len(tree, end),
         wanted,
         common: common_len(tree, end, target, steps),
@@ -198,42 +208,43 @@ pub(crate) fn copy_place(place: &Place) -> Result<Place, AllocError>
     Ok(place)
 }
 
-/// The steps from a place to the target, by their counts. Memory is taken for the copy of the place
-/// alone.
+/// The steps from a place to the target, by their counts. It takes no memory.
 pub fn make_batch<L: Ledger>(
     tree: &BlockTree,
     tip: Option<usize>,
     head: Option<usize>,
-    place: &Place,
+    place: Place,
     mode: Mode,
     stop: Option<u64>,
     steps: &mut Steps<L>,
-) -> Result<Batch, AllocError>
+) -> Batch
     requires tip { slip_of tree.now.history tip ≡ final_tip tree.now.history }
     requires head { slip_of tree.now.history head ≡ head_of tree.now.history }
-    requires fits { PlaceFits tree.now.history place.now.end place.now.lib }
-    requires ahead { IsAhead stop place.now.end }
-    ensures batch { IfOk result (λ b. IsBatch tree.now.history mode stop b) }
-    ensures place { IfOk result (λ b. b.place ≡ place.now) }
-    ensures given { IfOk result
-        (λ b. IsGiven tree.now.history tree.now.history mode stop b) }
-    ensures most { IfOk result (λ b. step_total b ≤ 2 * b.seen) }
-    ensures small { IfOk result (λ b. b.seen ≤ 134217728) }
+    requires fits { PlaceFits tree.now.history place.end place.lib }
+    requires ahead { IsAhead stop place.end }
+    ensures batch { IsBatch tree.now.history mode stop result }
+    ensures place { result.place ≡ place }
+    ensures given { IsGiven tree.now.history tree.now.history mode stop result }
+    ensures most { step_total result ≤ 2 * result.seen }
+    ensures small { result.seen ≤ 134217728 }
     ensures cost { (d : ℕ) → length tree.now.history < 2 ^ d → steps.new ≤ steps.old + 2 + 4 * d }
 {
     let seen = tree.len() as u64;
     let target = target_of(tree, tip, head, mode, stop, steps);
-    let counts = counts_of(path_lengths(tree, tip, place, target, steps));
-    let place = copy_place(place)?;
-    Ok(Batch {
+    let paths = path_lengths(tree, tip, &place, target, steps);
+    let counts = counts_of(paths);
+    Batch {
         seen,
         place,
         target,
+        end: paths.end,
+        held: paths.held,
+        known: paths.known,
         undos: counts.undos,
         finals: counts.finals,
         newfinals: counts.newfinals,
         news: counts.news,
-    })
+    }
 }
 
 /// How many steps a batch has.

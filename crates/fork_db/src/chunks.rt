@@ -2,7 +2,7 @@
 
 ghost use Rattle.std.specs.Prelude.{◌≡◌, ◌<◌, ◌^◌, ℕ, ◌≤◌, ◌+◌, ◌++◌, ◌-◌, List, length, reverse, drop, map, take, OnErr, OnOk, IfOk, IfSome, Some, Option, option_and_then};
 ghost use Rattle.std.specs.List.{slice_get, AllByRecursion};
-ghost use Rattle.std.specs.Option.{option_map};
+ghost use Rattle.std.specs.Option.{option_map, option_or};
 ghost use Rattle.block_record.specs.declared.blocks.Slip.{Slip as SlipOf};
 ghost use Rattle.chain_model.specs.declared.places.Mode.{Mode as ModeOf};
 ghost use Rattle.chain_model.specs.Ancestry.{IsHistory, ancestry};
@@ -12,7 +12,7 @@ ghost use Rattle.chain_model.specs.Places.{place_along, steps_to};
 ghost use Rattle.block_tree.specs.Places.{slip_at, slip_of};
 ghost use Rattle.fork_db.specs.Batches.{HoldsWhatIs, IsGiven, WasGiven, added_kind, item_seen, step_seen, step_total};
 
-use crate::batches::{Batch, find_ref, path_len, step_count};
+use crate::batches::{Batch, step_count};
 use crate::held::HeldBlocks;
 use block_record::{Block, BlockRef, Slip};
 use block_tree::BlockTree;
@@ -86,26 +86,25 @@ fn step_in(tree: &BlockTree, batch: &Batch, index: u64) -> StepAt
         ≡ slice_get (steps_of older batch.now.place mode stop) index }
     ensures range { result.at < length tree.now.history }
 {
-    let end = find_ref(tree, &batch.place.end);
-    let held = path_len(tree, end);
+    let len = tree.len() as u64;
+    prove!(batch.held <= len);
     if index < batch.undos {
         return StepAt {
             step: Step::Undo,
-            at: block_at(tree, end, held - 1 - index),
+            at: block_at(tree, batch.end, batch.held - 1 - index),
         };
     }
     let index = index - batch.undos;
     if index < batch.finals {
-        let known = path_len(tree, find_ref(tree, &batch.place.lib));
         return StepAt {
             step: Step::Final,
-            at: block_at(tree, batch.target, known + index),
+            at: block_at(tree, batch.target, batch.known + index),
         };
     }
     let index = index - batch.finals;
     StepAt {
         step: added_step(index < batch.newfinals),
-        at: block_at(tree, batch.target, held - batch.undos + index),
+        at: block_at(tree, batch.target, batch.held - batch.undos + index),
     }
 }
 
@@ -163,21 +162,37 @@ pub fn place_after_steps(tree: &BlockTree, batch: &Batch, count: u64) -> Result<
         (take count (steps_of older batch.now.place mode stop))) }
 {
     let taken = count.min(count_in(tree, batch));
-    let end = end_after(tree, batch, taken)?;
-    let lib = lib_after(tree, batch, taken)?;
+    let end = or_copy(new_end(tree, batch, taken)?, &batch.place.end)?;
+    let lib = or_copy(new_lib(tree, batch, taken)?, &batch.place.lib)?;
     Ok(Place { end, lib })
 }
 
-/// The last block that the client has after some steps: that of the last new one, else the parent
-/// of the last one that was taken back.
-fn end_after(tree: &BlockTree, batch: &Batch, taken: u64) -> Result<Option<BlockRef>, AllocError>
+/// The place after all steps of a batch, made of the batch's own where that stays.
+pub fn place_after_all(tree: &BlockTree, batch: Batch) -> Result<Place, AllocError>
+    requires given { WasGiven tree.now.history batch }
+    ensures { (older : List SlipOf) (mode : ModeOf) (stop : Option ℕ)
+        → IsGiven tree.now.history older mode stop batch
+        → IfOk result (λ p. p ≡ place_along batch.place (steps_of older batch.place mode stop)) }
+{
+    let total = count_in(tree, &batch);
+    let end = new_end(tree, &batch, total)?;
+    let lib = new_lib(tree, &batch, total)?;
+    Ok(Place {
+        end: end.or(batch.place.end),
+        lib: lib.or(batch.place.lib),
+    })
+}
+
+/// The last block that the client has after some steps, where it is another: that of the last new
+/// one, else the parent of the last one that was taken back.
+fn new_end(tree: &BlockTree, batch: &Batch, taken: u64) -> Result<Option<BlockRef>, AllocError>
     requires sound { IsHistory tree.now.history }
     requires given { WasGiven tree.now.history batch.now }
     requires range { taken ≤ step_total batch.now }
     requires small { step_total batch.now < 2 ^ 64 }
     ensures { (older : List SlipOf) (mode : ModeOf) (stop : Option ℕ)
         → IsGiven tree.now.history older mode stop batch.now
-        → IfOk result (λ r. r ≡ (place_along batch.now.place
+        → IfOk result (λ r. option_or r batch.now.place.end ≡ (place_along batch.now.place
         (take taken (steps_of older batch.now.place mode stop))).end) }
 {
     let undone = taken.min(batch.undos);
@@ -189,19 +204,18 @@ fn end_after(tree: &BlockTree, batch: &Batch, taken: u64) -> Result<Option<Block
         let last = parent_reference(step_slip(tree, batch, undone - 1))?;
         return Ok(Some(last));
     }
-    let last = copy_of(&batch.place.end)?;
-    Ok(last)
+    Ok(None)
 }
 
-/// The last block that the client knows to be final after some steps.
-fn lib_after(tree: &BlockTree, batch: &Batch, taken: u64) -> Result<Option<BlockRef>, AllocError>
+/// The last block that the client knows to be final after some steps, where it is another.
+fn new_lib(tree: &BlockTree, batch: &Batch, taken: u64) -> Result<Option<BlockRef>, AllocError>
     requires sound { IsHistory tree.now.history }
     requires given { WasGiven tree.now.history batch.now }
     requires range { taken ≤ step_total batch.now }
     requires small { step_total batch.now < 2 ^ 64 }
     ensures { (older : List SlipOf) (mode : ModeOf) (stop : Option ℕ)
         → IsGiven tree.now.history older mode stop batch.now
-        → IfOk result (λ r. r ≡ (place_along batch.now.place
+        → IfOk result (λ r. option_or r batch.now.place.lib ≡ (place_along batch.now.place
         (take taken (steps_of older batch.now.place mode stop))).lib) }
 {
     let marked = taken.min(batch.undos + batch.finals + batch.newfinals);
@@ -209,8 +223,20 @@ fn lib_after(tree: &BlockTree, batch: &Batch, taken: u64) -> Result<Option<Block
         let last = reference(step_slip(tree, batch, marked - 1))?;
         return Ok(Some(last));
     }
-    let last = copy_of(&batch.place.lib)?;
-    Ok(last)
+    Ok(None)
+}
+
+/// A reference, or a copy of another where there is none.
+fn or_copy(
+    block: Option<BlockRef>,
+    other: &Option<BlockRef>,
+) -> Result<Option<BlockRef>, AllocError>
+    ensures { IfOk result (λ r. r ≡ option_or block other.now) }
+{
+    if block.is_some() {
+        return Ok(block);
+    }
+    copy_of(other)
 }
 
 /// A block by number and id.

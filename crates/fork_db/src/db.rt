@@ -8,7 +8,7 @@ ghost use Rattle.block_record.specs.Slips.{slip as slip_of_block};
 ghost use Rattle.chain_model.specs.Ancestry.{ancestry, has_id, IsHistory};
 ghost use Rattle.chain_model.specs.Finality.{claim as claim_in, final_tip as final_tip_in, on_path as on_path_in, ClaimsAgree};
 ghost use Rattle.chain_model.specs.declared.places.Mode.{Mode as ModeOf};
-ghost use Rattle.chain_model.specs.Places.{IsAhead, PlaceFits, place_along, steps_to};
+ghost use Rattle.chain_model.specs.Places.{IsAhead, PlaceFits, place_along, place_to, steps_to};
 ghost use Rattle.chain_model.specs.Steps.{head as head_in, steps_of};
 ghost use Rattle.block_tree.specs.Places.{place_of, slip_at, slip_of, meeting};
 ghost use Rattle.fork_db.specs.Batches.{HoldsWhatIs, IsBatch, IsGiven, WasGiven, item_seen, step_seen};
@@ -16,9 +16,10 @@ ghost use Rattle.fork_db.specs.Claims.{claim_at};
 ghost use Rattle.fork_db.specs.Forks.{IsAppended};
 ghost use Rattle.fork_db.specs.Verdicts.{verdict_of, fits, parent_verdict};
 
-use crate::batches::{Batch, make_batch};
+use crate::batches::{Batch, copy_place, make_batch};
 use crate::chunks::{
-    StepAt, StepItem, ancestor_at, count_in, place_after_steps, push_items, step_at,
+    StepAt, StepItem, ancestor_at, count_in, place_after_all, place_after_steps, push_items,
+    step_at,
 };
 use crate::claims::{agrees_with_tip, claim_below, later_tip};
 use crate::heads::Heads;
@@ -211,7 +212,7 @@ impl ForkDb {
     }
 
     /// The steps from a place that fits to the target, by their counts. It reads at most 2 + 4 d
-    /// links, d the number of binary digits of the history's length.
+    /// links, d the number of binary digits of the history's length, and copies the place.
     pub fn batch<L: Ledger>(
         &self,
         place: &Place,
@@ -225,6 +226,26 @@ impl ForkDb {
         ensures given { IfOk result
             (λ b. IsGiven self.now.history self.now.history mode stop b) }
         ensures place { IfOk result (λ b. b.place ≡ place.now) }
+        ensures cost { (d : ℕ) → length self.now.history < 2 ^ d
+            → steps.new ≤ steps.old + 2 + 4 * d }
+    {
+        let place = copy_place(place)?;
+        Ok(self.batch_from(place, mode, stop, steps))
+    }
+
+    /// The same from a place of the caller's own, which the batch keeps. It takes no memory.
+    pub fn batch_from<L: Ledger>(
+        &self,
+        place: Place,
+        mode: Mode,
+        stop: Option<u64>,
+        steps: &mut Steps<L>,
+    ) -> Batch
+        requires fits { PlaceFits self.now.history place.end place.lib }
+        requires ahead { IsAhead stop place.end }
+        ensures batch { IsBatch self.now.history mode stop result }
+        ensures given { IsGiven self.now.history self.now.history mode stop result }
+        ensures place { result.place ≡ place }
         ensures cost { (d : ℕ) → length self.now.history < 2 ^ d
             → steps.new ≤ steps.old + 2 + 4 * d }
     {
@@ -266,6 +287,16 @@ impl ForkDb {
             (take count (steps_of older batch.now.place mode stop))) }
     {
         place_after_steps(&self.tree, batch, count)
+    }
+
+    /// The place after all steps of a batch, which is used up: what stays of its place is moved.
+    pub fn place_after_all(&self, batch: Batch) -> Result<Place, AllocError>
+        requires { WasGiven self.now.history batch }
+        ensures { (older : List SlipOf) (mode : ModeOf) (stop : Option ℕ)
+            → IsGiven self.now.history older mode stop batch
+            → IfOk result (λ p. p ≡ place_to older batch.place mode stop) }
+    {
+        place_after_all(&self.tree, batch)
     }
 
     /// Appends the steps of a batch from an index, at most `max`, each with its slip, its block where
@@ -365,7 +396,7 @@ impl ForkDb {
         requires slip { slip ≡ slip_of_block block.value }
         requires fits { verdict_of self.old.history slip ≡ fits }
         ensures place { IfOk result (λ at. at ≡ length self.old.history) }
-        ensures appended { OnOk result (IsAppended self.old self.new block.value) }
+        ensures appended { OnOk result (IsAppended self.old self.new slip (Some block.value)) }
         ensures room { OnOk result (self.old.room ≤ self.new.room + 1) }
         ensures kept { OnErr result ((self.new.history ≡ self.old.history)
             × (self.new.held ≡ self.old.held) × (self.new.limit ≡ self.old.limit)) }
@@ -377,21 +408,41 @@ impl ForkDb {
             → result ≡ Err (ForkFault.Full (length self.old.history)) }
     {
         self.reserve(1)?;
-        Ok(self.append_reserved(slip, block))
+        Ok(self.append_reserved(slip, Some(block)))
+    }
+
+    /// Appends a block that may come next by its slip alone, and gives its place. No payload is held.
+    pub fn append_slip(&mut self, slip: Slip) -> Result<usize, ForkFault>
+        requires fits { verdict_of self.old.history slip ≡ fits }
+        ensures place { IfOk result (λ at. at ≡ length self.old.history) }
+        ensures appended { OnOk result (IsAppended self.old self.new slip None) }
+        ensures room { OnOk result (self.old.room ≤ self.new.room + 1) }
+        ensures kept { OnErr result ((self.new.history ≡ self.old.history)
+            × (self.new.held ≡ self.old.held) × (self.new.limit ≡ self.old.limit)) }
+        ensures succeeds { 0 < self.old.room → IsOk result }
+        // `Full` comes exactly where the limit is reached.
+        ensures full { (n : ℕ) → result ≡ Err (ForkFault.Full n)
+            → (n ≡ length self.old.history) × (n ≡ self.old.limit) }
+        ensures limited { self.old.limit ≡ length self.old.history
+            → result ≡ Err (ForkFault.Full (length self.old.history)) }
+    {
+        self.reserve(1)?;
+        Ok(self.append_reserved(slip, None))
     }
 
     /// Appends a block that may come next, for which there is room.
-    fn append_reserved(&mut self, slip: Slip, block: Arc<Block>) -> usize
-        requires slip { slip ≡ slip_of_block block.value }
+    fn append_reserved(&mut self, slip: Slip, block: Option<Arc<Block>>) -> usize
+        requires slip { IfSome block (λ b. slip ≡ slip_of_block b.value) }
         requires fits { verdict_of self.old.history slip ≡ fits }
         requires room { 0 < self.old.room }
         ensures place { result ≡ length self.old.history }
-        ensures appended { IsAppended self.old self.new block.value }
+        ensures appended { IsAppended self.old self.new slip (option_map (λ b. b.value) block) }
         ensures room { self.new.room + 1 ≡ self.old.room }
     {
         let at = self.tree.len();
-        let claim = next_claim(&self.tree, &slip);
-        self.tree.push(slip);
+        let parent = self.tree.find(&slip.parent_id);
+        let claim = next_claim(&self.tree, parent, &slip);
+        self.tree.push(slip, parent);
         self.claims.push_reserved(claim as u32);
         self.held.push(block);
         self.tip = later_tip(&self.tree, self.tip, claim);
@@ -401,26 +452,28 @@ impl ForkDb {
 }
 
 /// The place of what the next block claims, which may be its own.
-fn next_claim(tree: &BlockTree, slip: &Slip) -> usize
-    requires { IsHistory (slip.now ∷ tree.now.history) }
+fn next_claim(tree: &BlockTree, parent: Option<usize>, slip: &Slip) -> usize
+    requires sound { IsHistory (slip.now ∷ tree.now.history) }
+    requires parent { place_of tree.now.history slip.now.parent_id ≡ parent }
     ensures value { slip_at (slip.now ∷ tree.now.history) result
         ≡ claim_in (slip.now ∷ tree.now.history) slip.now }
     ensures range { result ≤ length tree.now.history }
 {
-    match older_claim(tree, slip) {
+    match older_claim(tree, parent, slip) {
         Some(claim) => claim,
         None => tree.len(),
     }
 }
 
 /// What the next block claims: a block of the history, or none where it claims itself.
-fn older_claim(tree: &BlockTree, slip: &Slip) -> Option<usize>
-    requires { IsHistory (slip.now ∷ tree.now.history) }
+fn older_claim(tree: &BlockTree, parent: Option<usize>, slip: &Slip) -> Option<usize>
+    requires sound { IsHistory (slip.now ∷ tree.now.history) }
+    requires parent { place_of tree.now.history slip.now.parent_id ≡ parent }
     ensures value { claim_in (slip.now ∷ tree.now.history) slip.now
         ≡ claim_at (slip.now ∷ tree.now.history) result }
     ensures range { IfSome result (λ c. c < length tree.now.history) }
 {
-    match tree.find(&slip.parent_id) {
+    match parent {
         Some(parent) => claim_below(tree, parent, slip.num, slip.lib_num),
         None => None,
     }

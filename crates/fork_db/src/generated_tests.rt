@@ -1,12 +1,15 @@
 //! Generated histories, on which each answer is compared with that of the slow bodies of
 //! `chain_model`.
 
+ghost use Rattle.fork_db.specs.Batches.{WasGiven};
+
 use crate::client::{batch_at, is_ahead, place_fits};
 use crate::fixtures::append_block;
-use crate::{ForkDb, ForkFault, Verdict};
+use crate::{Batch, ForkDb, ForkFault, Verdict};
 use block_record::{Block, Bytes, Id, Slip, slip_of};
 use chain_model::{
-    Mode, Place, ancestry_in, claim_of, contains_id, final_tip_of, head_of, place_to, plain_steps,
+    Mode, Place, PlainStep, ancestry_in, claim_of, contains_id, final_tip_of, head_of, place_to,
+    plain_steps,
 };
 use sha2::{Digest, Sha256};
 use std::alloc::{AllocError, Global};
@@ -33,42 +36,88 @@ impl Numbers {
     }
 }
 
+/// A database, the same history as a list, and a client's place.
+#[derive(Drop)]
+struct Grown {
+    db: ForkDb,
+    history: Vec<Slip>,
+    place: Place,
+}
+
 #[test]
 fn generated_histories_answer_as_the_slow_bodies(rt: HostRuntime) -> Result<(), Fail> {
     for seed in 1..TREES {
         let mut numbers = Numbers {
             state: seed.wrapping_mul(0x9e37_79b9_7f4a_7c15),
         };
-        grow_tree(&rt, rt.alloc(), seed, &mut numbers)?;
+        assert!(rt; is_same_tree(&rt, rt.alloc(), &mut numbers)?, "seed {seed}");
     }
     Ok(())
 }
 
-fn grow_tree(
-    rt: &impl Abort,
-    alloc: Global,
-    seed: u64,
-    numbers: &mut Numbers,
-) -> Result<(), ForkFault> {
-    let mut db = ForkDb::new(alloc, 100)?;
-    let mut history = Vec::new(alloc);
-    let mut place = Place {
-        end: None,
-        lib: None,
+/// Whether each answer is the slow one while a history grows.
+fn is_same_tree(rt: &impl Abort, alloc: Global, numbers: &mut Numbers) -> Result<bool, ForkFault> {
+    let mut grown = Grown {
+        db: ForkDb::new(alloc, 100)?,
+        history: Vec::new(alloc),
+        place: Place {
+            end: None,
+            lib: None,
+        },
     };
     for i in 0..BLOCKS_OFFERED {
-        let block = next_block(rt, alloc, numbers, history.as_slice(), i)?;
-        let slip = slip_of(alloc, &block)?;
-        let verdict = slow_verdict(alloc, history.as_slice(), &slip)?;
-        assert_eq!(rt; db.can_append(&block), verdict, "seed {seed}, block {i}");
-        if matches!(db.can_append(&block), Verdict::Fits) {
-            keep(&mut history, slip)?;
-            append_block(rt, alloc, &mut db, block)?;
-            expect_answers(rt, alloc, seed, &db, history.as_slice())?;
-            place = follow(rt, alloc, seed, numbers, &db, history.as_slice(), place)?;
+        let block = next_block(rt, alloc, numbers, grown.history.as_slice(), i)?;
+        if !is_same_offer(rt, alloc, numbers, &mut grown, block)? {
+            return Ok(false);
         }
     }
-    Ok(())
+    Ok(true)
+}
+
+/// Offers a block, and gives whether each answer is the slow one.
+fn is_same_offer(
+    rt: &impl Abort,
+    alloc: Global,
+    numbers: &mut Numbers,
+    grown: &mut Grown,
+    block: Block,
+) -> Result<bool, ForkFault> {
+    let slip = slip_of(alloc, &block)?;
+    let verdict = grown.db.can_append(&block);
+    if verdict != slow_verdict(alloc, grown.history.as_slice(), &slip)? {
+        return Ok(false);
+    }
+    if verdict != Verdict::Fits {
+        return Ok(true);
+    }
+    keep(&mut grown.history, slip)?;
+    append_block(rt, alloc, &mut grown.db, block)?;
+    is_same_after(rt, alloc, numbers, grown)
+}
+
+/// Compares the answers on blocks and on steps, and lets the client take some steps.
+fn is_same_after(
+    rt: &impl Abort,
+    alloc: Global,
+    numbers: &mut Numbers,
+    grown: &mut Grown,
+) -> Result<bool, ForkFault> {
+    if !is_same_known(alloc, &grown.db, grown.history.as_slice())? {
+        return Ok(false);
+    }
+    let (mode, stop) = target(numbers);
+    if !is_ahead(&grown.place, stop) {
+        return Ok(true);
+    }
+    let taken = numbers.below(5);
+    let next = follow(rt, alloc, grown, mode, stop, taken)?;
+    match next {
+        Some(place) => {
+            grown.place = place;
+            Ok(true)
+        }
+        None => Ok(false),
+    }
 }
 
 fn keep(history: &mut Vec<Slip>, slip: Slip) -> Result<(), AllocError> {
@@ -169,39 +218,62 @@ fn is_above(alloc: Global, history: &[Slip], a: &Slip, b: &Slip) -> Result<bool,
     Ok(contains_id(path.as_slice(), &a.id))
 }
 
-/// Compares each answer on blocks and paths.
-fn expect_answers(
-    rt: &impl Abort,
-    alloc: Global,
-    seed: u64,
-    db: &ForkDb,
-    history: &[Slip],
-) -> Result<(), AllocError> {
-    let head = head_of(alloc, history)?;
-    assert!(rt; is_slip(db, db.head(), head), "head, seed {seed}");
-    let tip = final_tip_of(alloc, history)?;
-    assert!(rt; is_slip(db, db.final_tip(), tip), "final tip, seed {seed}");
-    for (b, block) in history.iter().enumerate() {
-        assert!(rt; (b as u64) < db.len());
-        let claim = claim_of(alloc, history, block)?;
-        assert!(rt;
-            is_slip(db, Some(db.claim(b)), claim),
-            "claim of {b}, seed {seed}"
-        );
-        let path = ancestry_in(alloc, history, &block.id)?;
-        for (a, other) in history.iter().enumerate() {
-            assert!(rt; (a as u64) < db.len());
-            let above = contains_id(path.as_slice(), &other.id);
-            assert_eq!(rt; db.on_path(a, b), above, "{a} on {b}, seed {seed}");
-            let line = ancestry_in(alloc, history, &other.id)?;
-            let shared = first_shared(path.as_slice(), line.as_slice());
-            assert!(rt;
-                is_slip(db, Some(db.fork_point(a, b)), shared),
-                "{a} {b}, seed {seed}"
-            );
+/// Whether each answer on blocks and paths is the slow one.
+fn is_same_known(alloc: Global, db: &ForkDb, history: &[Slip]) -> Result<bool, AllocError> {
+    if !is_slip(db, db.head(), head_of(alloc, history)?)
+        || !is_slip(db, db.final_tip(), final_tip_of(alloc, history)?)
+    {
+        return Ok(false);
+    }
+    for b in 0..history.len() {
+        if !is_same_block(alloc, db, history, b)? {
+            return Ok(false);
         }
     }
-    Ok(())
+    Ok(true)
+}
+
+/// Whether each answer on the block at a place is the slow one.
+fn is_same_block(
+    alloc: Global,
+    db: &ForkDb,
+    history: &[Slip],
+    b: usize,
+) -> Result<bool, AllocError> {
+    if b >= history.len() || (b as u64) >= db.len() {
+        return Ok(false);
+    }
+    if !is_slip(
+        db,
+        Some(db.claim(b)),
+        claim_of(alloc, history, &history[b])?,
+    ) {
+        return Ok(false);
+    }
+    for a in 0..history.len() {
+        if !is_same_pair(alloc, db, history, a, b)? {
+            return Ok(false);
+        }
+    }
+    Ok(true)
+}
+
+/// Whether the answers on the paths of two blocks are the slow ones.
+fn is_same_pair(
+    alloc: Global,
+    db: &ForkDb,
+    history: &[Slip],
+    a: usize,
+    b: usize,
+) -> Result<bool, AllocError> {
+    if a.max(b) >= history.len() || (a.max(b) as u64) >= db.len() {
+        return Ok(false);
+    }
+    let path = ancestry_in(alloc, history, &history[b].id)?;
+    let line = ancestry_in(alloc, history, &history[a].id)?;
+    let shared = first_shared(path.as_slice(), line.as_slice());
+    let above = contains_id(path.as_slice(), &history[a].id);
+    Ok(db.on_path(a, b) == above && is_slip(db, Some(db.fork_point(a, b)), shared))
 }
 
 /// The first block of the one path that is on the other, both with their last blocks first.
@@ -223,51 +295,70 @@ fn is_slip(db: &ForkDb, at: Option<usize>, wanted: Option<&Slip>) -> bool {
     }
 }
 
-/// Takes some steps of a batch from the place, and gives the place after them.
+/// A target: a mode, and a stop or none.
+fn target(numbers: &mut Numbers) -> (Mode, Option<u64>) {
+    let is_final = numbers.below(3) == 0;
+    let stops = numbers.below(3) == 0;
+    let stop = numbers.below(9);
+    (
+        if is_final { Mode::Final } else { Mode::Live },
+        if stops { Some(stop) } else { None },
+    )
+}
+
+/// The place after some steps of a batch from the place, or none where a step is not the slow one.
 fn follow(
     rt: &impl Abort,
     alloc: Global,
-    seed: u64,
-    numbers: &mut Numbers,
-    db: &ForkDb,
-    history: &[Slip],
-    place: Place,
-) -> Result<Place, AllocError> {
-    let mode = if numbers.below(3) == 0 {
-        Mode::Final
-    } else {
-        Mode::Live
-    };
-    let stop = if numbers.below(3) == 0 {
-        Some(numbers.below(9))
-    } else {
-        None
-    };
-    if !is_ahead(&place, stop) {
-        return Ok(place);
+    grown: &Grown,
+    mode: Mode,
+    stop: Option<u64>,
+    taken: u64,
+) -> Result<Option<Place>, AllocError> {
+    let place = &grown.place;
+    assert!(rt; place_fits(&grown.db, place));
+    assert!(rt; is_ahead(place, stop));
+    let batch = batch_at(&grown.db, place, mode, stop)?;
+    let history = grown.history.as_slice();
+    let steps = plain_steps(alloc, history, place, mode, stop)?;
+    if !are_steps(&grown.db, &batch, steps.as_slice()) {
+        return Ok(None);
     }
-    assert!(rt; place_fits(db, &place), "seed {seed}");
-    assert!(rt; is_ahead(&place, stop));
-    let batch = batch_at(db, &place, mode, stop)?;
-    let steps = plain_steps(alloc, history, &place, mode, stop)?;
-    let reached = place_to(alloc, history, &place, mode, stop)?;
+    let reached = place_to(alloc, history, place, mode, stop)?;
+    place_by(&grown.db, &batch, steps.len() as u64, &reached, taken)
+}
+
+/// Whether these are the steps of a batch, and all of them.
+fn are_steps(db: &ForkDb, batch: &Batch, steps: &[PlainStep]) -> bool
+    requires { WasGiven db.now.history batch.now }
+{
     for (i, step) in steps.iter().enumerate() {
-        let found = db.step_at(&batch, i as u64);
-        let same = match found {
-            Some(x) if (x.at as u64) < db.len() => {
-                x.step == step.step && db.slip(x.at).id == step.id
-            }
-            _ => false,
+        let is_there = match db.step_at(batch, i as u64) {
+            Some(x) => (x.at as u64) < db.len()
+                && x.step == step.step
+                && db.slip(x.at).id == step.id,
+            None => false,
         };
-        assert!(rt; same, "step {i}, seed {seed}");
+        if !is_there {
+            return false;
+        }
     }
-    assert!(rt;
-        db.step_at(&batch, steps.len() as u64).is_none(),
-        "seed {seed}"
-    );
-    let last = db.place_after(&batch, steps.len() as u64)?;
-    assert_eq!(rt; last, reached, "seed {seed}");
-    let taken = numbers.below((steps.len() as u64).saturating_add(1));
-    let next = db.place_after(&batch, taken)?;
-    Ok(next)
+    db.step_at(batch, steps.len() as u64).is_none()
+}
+
+/// The place after some steps, or none where all of them do not lead to the place that is wanted.
+fn place_by(
+    db: &ForkDb,
+    batch: &Batch,
+    count: u64,
+    wanted: &Place,
+    taken: u64,
+) -> Result<Option<Place>, AllocError>
+    requires { WasGiven db.now.history batch.now }
+{
+    if db.place_after(batch, count)? != *wanted {
+        return Ok(None);
+    }
+    let place = db.place_after(batch, taken)?;
+    Ok(Some(place))
 }

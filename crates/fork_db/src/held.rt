@@ -81,13 +81,14 @@ impl HeldBlocks {
         Ok(())
     }
 
-    /// Appends a block, which is held.
-    pub fn push(&mut self, block: Arc<Block>)
+    /// Appends a block, which is held where it is given.
+    pub fn push(&mut self, block: Option<Arc<Block>>)
         requires room { 0 < self.old.room }
-        ensures blocks { self.new.blocks ≡ self.old.blocks ++ Some block.value ∷ [] }
+        ensures blocks { self.new.blocks
+            ≡ self.old.blocks ++ option_map (λ b. b.value) block ∷ [] }
         ensures room { self.new.room + 1 ≡ self.old.room }
     {
-        self.blocks.push_reserved(Some(block));
+        self.blocks.push_reserved(block);
         self.room -= 1;
     }
 

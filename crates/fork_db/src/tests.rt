@@ -1,12 +1,16 @@
 //! Small histories with forks, with answers worked out by hand.
 
+ghost use Rattle.std.specs.Prelude.{IfOk};
+ghost use Rattle.fork_db.specs.Batches.{WasGiven};
+
 use crate::client::{batch_at, is_ahead, place_fits};
 use crate::fixtures::{
     At, CHAIN, FORK, Fields, SKIP, TIE, append_block, block_of, db_of, place_of,
 };
-use crate::{ForkDb, ForkFault, Verdict};
+use crate::{Batch, ForkDb, ForkFault, StepItem, Verdict};
+use block_record::BlockRef;
 use chain_model::{Mode, Step};
-use std::alloc::Global;
+use std::alloc::{AllocError, Global};
 use std::process::Abort;
 use std::test::Fail;
 
@@ -34,65 +38,63 @@ const VERDICTS: &[Judged] = &[
 #[test]
 fn the_first_condition_that_fails_is_named(rt: HostRuntime) -> Result<(), Fail> {
     for (rows, next, wanted) in VERDICTS {
-        expect_verdict(&rt, rt.alloc(), rows, *next, *wanted)?;
+        let found = verdict_on(&rt, rt.alloc(), rows, *next)?;
+        assert!(rt; found == *wanted, "{}", next.1);
     }
     Ok(())
 }
 
-fn expect_verdict(
+fn verdict_on(
     rt: &impl Abort,
     alloc: Global,
     rows: &[Fields],
     next: Fields,
-    wanted: Verdict,
-) -> Result<(), ForkFault> {
+) -> Result<Verdict, ForkFault> {
     let db = db_of(rt, alloc, rows, 100)?;
     let block = block_of(rt, alloc, next)?;
-    assert_eq!(rt; db.can_append(&block), wanted, "{}", next.1);
-    Ok(())
+    Ok(db.can_append(&block))
 }
 
-/// The first blocks of a history, its head, its final tip, and what the last block claims.
-type Known = (&'static [Fields], usize, usize, usize, usize);
+/// How many blocks of a history there are first, and then the head, the final tip, and what the
+/// last block claims.
+type Known = (&'static [Fields], usize, (usize, usize, usize));
 
 const KNOWN: &[Known] = &[
-    (CHAIN, 1, 0, 0, 0),
-    (CHAIN, 2, 1, 0, 0),
-    (CHAIN, 3, 2, 1, 1),
-    (TIE, 3, 1, 0, 0),
-    (TIE, 4, 3, 0, 0),
-    (FORK, 4, 3, 0, 0),
-    (FORK, 5, 4, 4, 4),
-    (SKIP, 3, 2, 1, 1),
+    (CHAIN, 1, (0, 0, 0)),
+    (CHAIN, 2, (1, 0, 0)),
+    (CHAIN, 3, (2, 1, 1)),
+    (TIE, 3, (1, 0, 0)),
+    (TIE, 4, (3, 0, 0)),
+    (FORK, 4, (3, 0, 0)),
+    (FORK, 5, (4, 4, 4)),
+    (SKIP, 3, (2, 1, 1)),
 ];
 
 #[test]
 fn head_tip_and_claims_are_those_of_the_rules(rt: HostRuntime) -> Result<(), Fail> {
-    for known in KNOWN {
-        expect_known(&rt, rt.alloc(), *known)?;
+    for (rows, len, wanted) in KNOWN {
+        let db = db_of(&rt, rt.alloc(), first(rows, *len), 100)?;
+        assert!(rt; known_of(&db, len.saturating_sub(1)) == Some(*wanted));
     }
-    let empty = ForkDb::new(rt.alloc(), 0)?;
-    assert_eq!(rt;
-        (empty.head(), empty.final_tip(), empty.len()),
-        (None, None, 0)
-    );
     Ok(())
 }
 
-fn expect_known(
-    rt: &impl Abort,
-    alloc: Global,
-    (rows, len, head, tip, claim): Known,
-) -> Result<(), ForkFault> {
-    let mut db = ForkDb::new(alloc, 100)?;
-    for fields in rows.iter().take(len) {
-        append_block(rt, alloc, &mut db, block_of(rt, alloc, *fields)?)?;
+fn first(rows: &[Fields], len: usize) -> &[Fields] {
+    rows.get(..len).unwrap_or(&[])
+}
+
+/// The head, the final tip, and what the block at a place claims.
+fn known_of(db: &ForkDb, last: usize) -> Option<(usize, usize, usize)> {
+    if (last as u64) >= db.len() {
+        return None;
     }
-    assert_eq!(rt; db.len(), len as u64);
-    assert_eq!(rt; (db.head(), db.final_tip()), (Some(head), Some(tip)));
-    let last = len.saturating_sub(1);
-    assert!(rt; (last as u64) < db.len());
-    assert_eq!(rt; db.claim(last), claim);
+    Some((db.head()?, db.final_tip()?, db.claim(last)))
+}
+
+#[test]
+fn an_empty_database_has_no_head(rt: HostRuntime) -> Result<(), Fail> {
+    let db = ForkDb::new(rt.alloc(), 0)?;
+    assert!(rt; (db.head(), db.final_tip(), db.len()) == (None, None, 0));
     Ok(())
 }
 
@@ -100,35 +102,22 @@ fn expect_known(
 fn paths_of_a_fork_meet_at_its_root(rt: HostRuntime) -> Result<(), Fail> {
     let db = db_of(&rt, rt.alloc(), FORK, 5)?;
     assert!(rt; db.len() == 5);
-    assert_eq!(rt; db.fork_point(3, 4), 0);
-    assert_eq!(rt; db.fork_point(3, 2), 2);
-    assert_eq!(rt;
-        (db.on_path(1, 3), db.on_path(3, 1), db.on_path(4, 3)),
-        (true, false, false)
-    );
-    assert_eq!(rt;
-        (db.ancestor_at(3, 2), db.ancestor_at(3, 4)),
-        (Some(2), None)
-    );
-    assert_eq!(rt; (db.claim(3), db.slip(3).num), (0, 4));
-    assert_eq!(rt; db.find(&db.slip(2).id), Some(2));
+    assert!(rt; (db.fork_point(3, 4), db.fork_point(3, 2)) == (0, 2));
+    assert!(rt; (db.on_path(1, 3), db.on_path(3, 1), db.on_path(4, 3)) == (true, false, false));
+    assert!(rt; (db.ancestor_at(3, 2), db.ancestor_at(3, 4)) == (Some(2), None));
+    assert!(rt; (db.slip(3).num, db.find(&db.slip(2).id)) == (4, Some(2)));
     Ok(())
 }
 
 #[test]
 fn a_full_database_stays_as_it_is(rt: HostRuntime) -> Result<(), Fail> {
-    let alloc = rt.alloc();
-    let mut db = db_of(&rt, alloc, &CHAIN[..2], 2)?;
-    let full = Err(ForkFault::Full { len: 2 });
-    assert_eq!(rt; db.reserve(1), full);
-    assert_eq!(rt; db.reserve(0), Ok(()));
-    let next = block_of(&rt, alloc, CHAIN[2])?;
-    let refused = append_block(&rt, alloc, &mut db, next);
-    assert!(rt; matches!(refused, Err(ForkFault::Full { len: 2 })));
-    assert_eq!(rt;
-        (db.len(), db.head(), db.final_tip()),
-        (2, Some(1), Some(0))
-    );
+    let mut db = db_of(&rt, rt.alloc(), first(CHAIN, 2), 2)?;
+    assert!(rt; db.reserve(1) == Err(ForkFault::Full { len: 2 }));
+    assert!(rt; db.reserve(0).is_ok());
+    let next = block_of(&rt, rt.alloc(), (3, "c3", 2, "b2", 2))?;
+    let refused = append_block(&rt, rt.alloc(), &mut db, next);
+    assert!(rt; refused == Err(ForkFault::Full { len: 2 }));
+    assert!(rt; known_of(&db, 1) == Some((1, 0, 0)));
     Ok(())
 }
 
@@ -136,13 +125,11 @@ fn a_full_database_stays_as_it_is(rt: HostRuntime) -> Result<(), Fail> {
 fn a_released_block_keeps_its_slip(rt: HostRuntime) -> Result<(), Fail> {
     let mut db = db_of(&rt, rt.alloc(), CHAIN, 3)?;
     assert!(rt; db.len() == 3);
-    assert!(rt; db.held(1).is_some());
     db.release(1);
     assert!(rt; db.len() == 3);
-    assert!(rt; db.held(1).is_none());
-    assert!(rt; db.held(0).is_some());
-    assert_eq!(rt; db.slip(1).num, 2);
-    assert_eq!(rt; (db.head(), db.final_tip()), (Some(2), Some(1)));
+    assert!(rt; (db.held(0).is_some(), db.held(1).is_some()) == (true, false));
+    assert!(rt; db.slip(1).num == 2);
+    assert!(rt; known_of(&db, 2) == Some((2, 1, 1)));
     Ok(())
 }
 
@@ -207,36 +194,124 @@ const WAYS: &[Way] = &[
 
 #[test]
 fn steps_lead_from_a_place_to_the_head(rt: HostRuntime) -> Result<(), Fail> {
-    for way in WAYS {
-        expect_way(&rt, rt.alloc(), *way)?;
+    for (rows, (end, lib), counts, steps, (last, known)) in WAYS {
+        let db = db_of(&rt, rt.alloc(), rows, 100)?;
+        let batch = batch_from(&rt, rt.alloc(), &db, *end, *lib)?;
+        assert!(rt; counts_of(&batch) == *counts);
+        assert!(rt; has_steps(&db, &batch, steps));
+        let reached = db.place_after(&batch, steps.len() as u64)?;
+        assert!(rt; reached == place_of(&rt, rt.alloc(), *last, *known)?);
     }
     Ok(())
 }
 
-fn expect_way(
+/// The steps from a place to the head.
+fn batch_from(
     rt: &impl Abort,
     alloc: Global,
-    (rows, (end, lib), counts, steps, (last, known)): Way,
-) -> Result<(), ForkFault> {
-    let db = db_of(rt, alloc, rows, 100)?;
+    db: &ForkDb,
+    end: At,
+    lib: At,
+) -> Result<Batch, AllocError>
+    ensures { IfOk result (λ b. WasGiven db.now.history b) }
+{
     let place = place_of(rt, alloc, end, lib)?;
-    assert!(rt; place_fits(&db, &place));
+    assert!(rt; place_fits(db, &place));
     assert!(rt; is_ahead(&place, None));
-    let batch = batch_at(&db, &place, Mode::Live, None)?;
-    assert_eq!(rt; (batch.seen, batch.target), (db.len(), db.head()));
-    assert_eq!(rt;
-        (batch.undos, batch.finals, batch.newfinals, batch.news),
-        counts
-    );
+    let batch = batch_at(db, &place, Mode::Live, None)?;
+    Ok(batch)
+}
+
+fn counts_of(batch: &Batch) -> (u64, u64, u64, u64) {
+    (batch.undos, batch.finals, batch.newfinals, batch.news)
+}
+
+/// Whether these are the steps of a batch, and all of them.
+fn has_steps(db: &ForkDb, batch: &Batch, steps: &[(Step, usize)]) -> bool
+    requires { WasGiven db.now.history batch.now }
+{
     for (i, (step, at)) in steps.iter().enumerate() {
-        let found = db.step_at(&batch, i as u64);
-        assert!(rt;
-            found.is_some_and(|x| x.step == *step && x.at == *at),
-            "step {i}"
-        );
+        let is_there = match db.step_at(batch, i as u64) {
+            Some(x) => x.step == *step && x.at == *at,
+            None => false,
+        };
+        if !is_there {
+            return false;
+        }
     }
-    assert!(rt; db.step_at(&batch, steps.len() as u64).is_none());
-    let reached = db.place_after(&batch, steps.len() as u64)?;
-    assert_eq!(rt; reached, place_of(rt, alloc, last, known)?);
+    db.step_at(batch, steps.len() as u64).is_none()
+}
+
+/// The parts of the steps from b4 to c2 in `FORK`: from an index so many, each with its block's
+/// number, whether that is held, and the numbers of the end and of the lib after it.
+const CHUNKS: &[(u64, u32, &[Item])] = &[
+    (0, 9, STEPS_TO_C2),
+    (
+        1,
+        2,
+        &[(Step::Undo, 3, false, 2, 1), (Step::Undo, 2, true, 1, 1)],
+    ),
+    (3, 1, &[(Step::NewFinal, 2, true, 2, 2)]),
+    (2, 0, &[]),
+    (4, 1, &[]),
+    (9, 1, &[]),
+];
+
+const STEPS_TO_C2: &[Item] = &[
+    (Step::Undo, 4, true, 3, 1),
+    (Step::Undo, 3, false, 2, 1),
+    (Step::Undo, 2, true, 1, 1),
+    (Step::NewFinal, 2, true, 2, 2),
+];
+
+/// A step of a chunk by its block's number, whether that is held, and the numbers of the end and of
+/// the lib after it.
+type Item = (Step, u64, bool, u64, u64);
+
+#[test]
+fn a_chunk_is_a_part_of_the_steps(rt: HostRuntime) -> Result<(), Fail> {
+    let mut db = db_of(&rt, rt.alloc(), FORK, 9)?;
+    assert!(rt; db.len() == 5);
+    db.release(2);
+    let batch = batch_from(&rt, rt.alloc(), &db, B4, A1)?;
+    for (from, max, wanted) in CHUNKS {
+        let items = chunk_of(rt.alloc(), &db, &batch, *from, *max)?;
+        assert!(rt; are_items(items.as_slice(), wanted));
+    }
     Ok(())
+}
+
+fn chunk_of(
+    alloc: Global,
+    db: &ForkDb,
+    batch: &Batch,
+    from: u64,
+    max: u32,
+) -> Result<Vec<StepItem>, AllocError>
+    requires { WasGiven db.now.history batch.now }
+{
+    let mut items = Vec::new(alloc);
+    db.chunk(batch, from, max, &mut items)?;
+    Ok(items)
+}
+
+fn are_items(items: &[StepItem], wanted: &[Item]) -> bool {
+    items.len() == wanted.len() && items.iter().zip(wanted).all(|(x, w)| item_of(x) == *w)
+}
+
+fn item_of(item: &StepItem) -> Item {
+    (
+        item.step,
+        item.slip.num,
+        item.held.is_some(),
+        num_of(&item.place.end),
+        num_of(&item.place.lib),
+    )
+}
+
+fn num_of(block: &Option<BlockRef>) -> u64 {
+    match block {
+        Some(block) => block.num,
+        None => 0,
+    }
 }

@@ -1,15 +1,16 @@
-use Rattle.std.proofs.Common.{arith, ap, sym, subst, length, drop, ◌≡◌}
+use Rattle.std.proofs.Common.{arith, ap, sym, subst, length, drop, ◌≡◌, ◌∙◌, ◌∷◌, ◌++◌, []}
+use Rattle.std.specs.Option.{option_map}
 use Rattle.fork_db.specs.Heads.{IsRanked}
 use Rattle.fork_db.specs.Verdicts.{verdict_of, fits}
 use Rattle.fork_db.proofs.ClaimFacts.{next_tip, tip_within, next_agrees, append_claims}
 use Rattle.fork_db.proofs.VerdictFacts.{IsNext, fits_next}
-use Rattle.fork_db.proofs.HeldFacts.{held_push}
+use Rattle.fork_db.proofs.HeldFacts.{held_push, slip_held}
 use Rattle.chain_model.specs.Ancestry.{IsHistory}
 use Rattle.chain_model.specs.Finality.{ClaimsAgree}
 use Rattle.fork_db.proofs.db.ForkDb.append_reserved.Goals as goal
 
-pub next_claim-claim-requires : goal.next_claim-claim-requires
-next_claim-claim-requires c =
+pub next_claim-claim-requires-clause-sound : goal.next_claim-claim-requires-clause-sound
+next_claim-claim-requires-clause-sound c =
     let next : IsNext c.args.slip c.self.inside.tree.history = fits_next _ _ c.len-at.ensures.sound (subst (λ v. verdict_of v.history c.args.slip ≡ fits) (sym c.self.view_is) c.requires.fits) in
     next.history
 
@@ -49,10 +50,21 @@ invariant_of-self c =
       next_tip _ _ _ _ _ _ c.push-self-inside.ensures.history next.history c.self.invariant.1 c.next_claim-claim.ensures.value c.later_tip-self-inside.ensures,
       subst ClaimsAgree (sym c.push-self-inside.ensures.history) (next_agrees _ _ next.history c.self.invariant.2 next.agrees),
       c.add.ensures.ranked,
-      held_push _ _ _ _ _ _ c.push-self-inside.ensures.history c.push.ensures.blocks c.requires.slip c.self.invariant.4,
+      held_push _ _ _ _ _ _ c.push-self-inside.ensures.history c.push.ensures.blocks (slip_held _ c.args.block c.args.slip c.requires.slip) c.self.invariant.4,
       omega (arith, c.push-self-inside.ensures.room, c.push_reserved.ensures.len, c.push_reserved.ensures.capacity, c.self.invariant.5),
       omega (arith, c.push-self-inside.ensures.room, c.push.ensures.room, c.self.invariant.6),
       omega (arith, c.push-self-inside.ensures.room, c.add.ensures.room, c.self.invariant.7),
       omega (arith, c.push-self-inside.ensures.room, ap length c.push-self-inside.ensures.history, c.self.invariant.8),
       subst IsHistory (sym c.push-self-inside.ensures.history) next.history,
     )
+
+pub returns-clause-appended : goal.returns-clause-appended
+returns-clause-appended c =
+    let next : IsNext c.args.slip c.self.inside.tree.history = fits_next _ _ c.len-at.ensures.sound (subst (λ v. verdict_of v.history c.args.slip ≡ fits) (sym c.self.view_is) c.requires.fits) in
+    record {
+      history = c.push-self-inside.ensures.history ∙ ap (λ v. c.args.slip ∷ v.history) c.self.view_is;
+      sound = subst IsHistory (sym c.push-self-inside.ensures.history) next.history;
+      agreed = subst ClaimsAgree (sym c.push-self-inside.ensures.history) (next_agrees _ _ next.history c.self.invariant.2 next.agrees);
+      held = c.push.ensures.blocks ∙ ap (λ v. v.held ++ option_map (λ b. b.value) c.args.block ∷ []) c.self.view_is;
+      limit = ap (λ v. v.limit) c.self.view_is;
+    }

@@ -1,7 +1,7 @@
 use Rattle.std.proofs.Common.{arith, ap, ◌∙◌, ◌-◌, Some}
 use Rattle.fork_db.proofs.PlaceFacts.{batch_end_new, batch_end_same, batch_end_undo}
 use Rattle.fork_db.proofs.StepFacts.{runs_of}
-use Rattle.fork_db.proofs.chunks.end_after.Goals as goal
+use Rattle.fork_db.proofs.chunks.new_end.Goals as goal
 
 pub returns-then-taken-batch : goal.returns-then-taken-batch
 returns-then-taken-batch c = λ older m stop given.
@@ -17,4 +17,4 @@ returns-then-undone-gt0 c = λ older m stop given.
 pub returns : goal.returns
 returns c = λ older m stop given.
     let r = runs_of _ older m stop _ c.requires.sound given in
-    c.in_ok-last-3.ensures ∙ batch_end_same _ _ _ r c.args.taken c.if-taken-batch.false (omega (arith, c.min-undone.ensures, c.if-undone-gt0.false))
+    batch_end_same _ _ _ r c.args.taken c.if-taken-batch.false (omega (arith, c.min-undone.ensures, c.if-undone-gt0.false))

@@ -1,7 +1,7 @@
 use Rattle.std.proofs.Common.{arith, ap, ◌∙◌, ◌-◌, Some}
 use Rattle.fork_db.proofs.PlaceFacts.{batch_lib_new, batch_lib_same}
 use Rattle.fork_db.proofs.StepFacts.{runs_of}
-use Rattle.fork_db.proofs.chunks.lib_after.Goals as goal
+use Rattle.fork_db.proofs.chunks.new_lib.Goals as goal
 
 pub returns-then-marked-batch : goal.returns-then-marked-batch
 returns-then-marked-batch c = λ older m stop given.
@@ -12,4 +12,4 @@ returns-then-marked-batch c = λ older m stop given.
 pub returns : goal.returns
 returns c = λ older m stop given.
     let r = runs_of _ older m stop _ c.requires.sound given in
-    c.in_ok-last-2.ensures ∙ batch_lib_same _ _ _ r c.args.taken (omega (arith, c.min-marked.ensures, c.if-marked-batch.false))
+    batch_lib_same _ _ _ r c.args.taken (omega (arith, c.min-marked.ensures, c.if-marked-batch.false))
