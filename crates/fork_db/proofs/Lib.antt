@@ -9,3 +9,4 @@ pub mod StepFacts
 pub mod PlaceFacts
 pub mod GivenFacts
 pub mod HoldFacts
+pub mod OpeningFacts

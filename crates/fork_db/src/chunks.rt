@@ -240,7 +240,7 @@ fn or_copy(
 }
 
 /// A block by number and id.
-fn reference(block: &Slip) -> Result<BlockRef, AllocError>
+pub fn reference(block: &Slip) -> Result<BlockRef, AllocError>
     ensures { IfOk result (λ r. r ≡ ref_of block.now) }
 {
     Ok(BlockRef {

@@ -39,7 +39,7 @@ pub fn claim_below(tree: &BlockTree, parent: usize, num: u64, lib_num: u64) -> O
 }
 
 /// The last block of the path with a number of at most the limit.
-fn last_by<L: Ledger>(tree: &BlockTree, at: usize, limit: u64, blank: Blank) -> Option<usize>
+pub fn last_by<L: Ledger>(tree: &BlockTree, at: usize, limit: u64, blank: Blank) -> Option<usize>
     requires range { at < length tree.now.history }
     requires name { blank.name ≡ L.name }
     requires parts { blank.parts ≡ L.parts }

@@ -8,7 +8,7 @@ ghost use Rattle.block_record.specs.Slips.{slip as slip_of_block};
 ghost use Rattle.chain_model.specs.Ancestry.{ancestry, has_id, IsHistory};
 ghost use Rattle.chain_model.specs.Finality.{claim as claim_in, final_tip as final_tip_in, on_path as on_path_in, ClaimsAgree};
 ghost use Rattle.chain_model.specs.declared.places.Mode.{Mode as ModeOf};
-ghost use Rattle.chain_model.specs.Places.{IsAhead, PlaceFits, place_along, place_to, steps_to};
+ghost use Rattle.chain_model.specs.Places.{IsAhead, PlaceFits, opening as opening_in, place_along, place_to, steps_to};
 ghost use Rattle.chain_model.specs.Steps.{head as head_in, steps_of};
 ghost use Rattle.block_tree.specs.Places.{place_of, slip_at, slip_of, meeting};
 ghost use Rattle.fork_db.specs.Batches.{HoldsWhatIs, IsBatch, IsGiven, WasGiven, item_seen, step_seen};
@@ -24,6 +24,7 @@ use crate::chunks::{
 use crate::claims::{agrees_with_tip, claim_below, later_tip};
 use crate::heads::Heads;
 use crate::held::HeldBlocks;
+use crate::openings::opening;
 use block_record::{Block, Id, Slip};
 use block_tree::{BLOCKS_MAX, BlockTree};
 use chain_model::{Mode, Place};
@@ -169,6 +170,14 @@ impl ForkDb {
             return None;
         }
         Some(self.tip)
+    }
+
+    /// The place of a client that begins at this number: the last final block with a lower number,
+    /// as end and as lib, or none of both.
+    pub fn opening(&self, start: u64) -> Result<Place, AllocError>
+        ensures { IfOk result (λ p. p ≡ opening_in self.now.history start) }
+    {
+        opening(&self.tree, self.final_tip(), start)
     }
 
     /// What the block at a place claims to be final.

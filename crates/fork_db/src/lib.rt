@@ -13,6 +13,7 @@ mod fixtures;
 mod generated_tests;
 mod heads;
 mod held;
+mod openings;
 #[cfg(test)]
 mod tests;
 

@@ -315,3 +315,13 @@ fn num_of(block: &Option<BlockRef>) -> u64 {
         None => 0,
     }
 }
+
+#[test]
+fn a_client_begins_at_the_last_final_block_below_its_start(rt: HostRuntime) -> Result<(), Fail> {
+    let db = db_of(&rt, rt.alloc(), FORK, 5)?;
+    for (start, at) in [(0, None), (1, None), (2, A1), (3, C2), (9, C2)] {
+        let wanted = place_of(&rt, rt.alloc(), at, at)?;
+        assert!(rt; db.opening(start)? == wanted, "{start}");
+    }
+    Ok(())
+}

@@ -89,13 +89,13 @@ step_fits newest kind block (Some e) (Some l) r =
     }
 
 -- so does its place
-place_fits : (newest : List Slip) (kind : Step) (block : BlockRef) (end lib : Option BlockRef) → StepFitsAt newest kind block end lib → PlaceFits newest end lib
+pub place_fits : (newest : List Slip) (kind : Step) (block : BlockRef) (end lib : Option BlockRef) → StepFitsAt newest kind block end lib → PlaceFits newest end lib
 place_fits newest kind block None lib f = absurd f
 place_fits newest kind block (Some e) None f = absurd f
 place_fits newest kind block (Some e) (Some l) f = f.place
 
 -- a cursor of which no field is wrong fits
-cursor_fits : (run : ℕ) (newest : List Slip) (c : Cursor) → misfit run newest c ≡ None → CursorFits c newest
+pub cursor_fits : (run : ℕ) (newest : List Slip) (c : Cursor) → misfit run newest c ≡ None → CursorFits c newest
 cursor_fits run newest c e =
     step_fits newest c.step c.block c.place.end c.place.lib
     (right (is_held newest c.block) (end_fits newest c.place.end) (lib_fits newest c.place.end c.place.lib) (shape_holds newest c.step c.block c.place) (is_ahead run newest c.tail) e)
@@ -106,7 +106,7 @@ record IsFrom (w : World) (r : Request) (begin : Place) (len : ℕ) (place : Pla
   begins : place ≡ begin
   ahead : IsAhead r.stop begin.end
 
-ahead_of : (stop : Option ℕ) (end : Option BlockRef) → stops_below stop end ≡ false → IsAhead stop end
+pub ahead_of : (stop : Option ℕ) (end : Option BlockRef) → stops_below stop end ≡ false → IsAhead stop end
 ahead_of None end e = tt
 ahead_of (Some n) None e = tt
 ahead_of (Some n) (Some r) e = ltb-false _ _ e

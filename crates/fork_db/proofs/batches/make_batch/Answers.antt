@@ -1,4 +1,4 @@
-use Rattle.std.proofs.Common.{arith, ◌≡◌, refl}
+use Rattle.std.proofs.Common.{arith, refl}
 use Rattle.fork_db.proofs.GivenFacts.{given_now}
 use Rattle.fork_db.proofs.BatchFacts.{batch_is, batch_lens, end_short, line_short}
 use Rattle.block_tree.specs.Places.{slip_of}
