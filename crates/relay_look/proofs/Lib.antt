@@ -1,0 +1,2 @@
+pub mod PathFacts
+pub mod LookFacts

@@ -1,0 +1,10 @@
+//! What a client that looks at a history is given next.
+#![tactic(auto)]
+
+mod answers;
+mod cursors;
+mod looks;
+mod paths;
+
+pub use answers::{Look, LookFault, Position};
+pub use looks::look;
