@@ -1,8 +1,8 @@
 //! The command `cursor`, with lines worked out by hand.
 
 use crate::run::run_plain;
-use memory_world::{FailingSink, MemorySink, MemorySource};
-use outer_world::{NoShelf, Sink};
+use memory_world::{FailingSink, MemoryShelf, MemorySink, MemorySource};
+use outer_world::Sink;
 use std::alloc::{AllocError, Global};
 use std::test::Fail;
 
@@ -77,7 +77,7 @@ fn a_text_is_told_or_refused(rt: HostRuntime) -> Result<(), Fail> {
         let mut input = MemorySource::new(Vec::new(alloc));
         let mut output = MemorySink::new(alloc, 256)?;
         let mut errors = MemorySink::new(alloc, 64)?;
-        let shelf = &mut NoShelf;
+        let shelf = &mut MemoryShelf::new(alloc);
         let status = run_plain(
             alloc,
             words.as_slice(),
@@ -102,7 +102,7 @@ fn a_failed_write_of_the_line_is_told(rt: HostRuntime) -> Result<(), Fail> {
     let fails = Vec::from_slice(alloc, &[0])?;
     let mut output = FailingSink::new(MemorySink::new(alloc, 256)?, fails);
     let mut errors = MemorySink::new(alloc, 64)?;
-    let shelf = &mut NoShelf;
+    let shelf = &mut MemoryShelf::new(alloc);
     let status = run_plain(
         alloc,
         words.as_slice(),

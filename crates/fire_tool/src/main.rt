@@ -14,7 +14,8 @@ mod streams;
 #[cfg(test)]
 mod tests;
 
-use outer_world::{NoShelf, write_whole};
+use memory_world::MemoryShelf;
+use outer_world::write_whole;
 use run::run_plain;
 use std::alloc::{AllocError, Global};
 use std::process::ExitCode;
@@ -31,13 +32,14 @@ fn main(rt: HostRuntime) -> ExitCode {
     };
     let mut input = Reading::new(rt.reader());
     let mut output = Writing::new(io::writer(&rt));
+    let mut shelf = MemoryShelf::new(alloc);
     let status = run_plain(
         alloc,
         words.as_slice(),
         &mut input,
         &mut output,
         &mut errors,
-        &mut NoShelf,
+        &mut shelf,
     );
     ExitCode::from(status.code)
 }

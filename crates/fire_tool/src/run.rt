@@ -115,9 +115,9 @@ pub fn run_plain<I: Source, O: Sink, E: Sink, S: Shelf>(
     input: &mut I,
     output: &mut O,
     errors: &mut E,
-    _shelf: &mut S,
+    shelf: &mut S,
 ) -> Status
-    ensures { RunsPlain (map (λ w. w.items) words.now)
+    ensures run { RunsPlain (map (λ w. w.items) words.now)
         (streams
         (flow (I.left input.old) (I.given input.old) (I.read_faults input.old)
         (O.written output.old) (O.write_faults output.old))
@@ -127,7 +127,11 @@ pub fn run_plain<I: Source, O: Sink, E: Sink, S: Shelf>(
         (O.written output.new) (O.write_faults output.new))
         (E.written errors.new) (E.write_faults errors.new))
         result.code }
+
+    // No command uses the shelf so far.
+    ensures shelf { shelf.new ≡ shelf.old }
 {
+    let _ = shelf;
     match cursor_value(words) {
         Some(text) => run_cursor_command(alloc, text, output, errors),
         None => run_over_input(alloc, words, input, output, errors),

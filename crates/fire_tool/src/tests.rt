@@ -4,8 +4,10 @@ use crate::run::run_plain;
 use block_record::Block;
 use chain_model::Place;
 use fire_lines::LineReader;
-use memory_world::{FailingSink, FailingSource, MemorySink, MemorySource, PiecesSource};
-use outer_world::{NoShelf, Sink, Source};
+use memory_world::{
+    FailingSink, FailingSource, MemoryShelf, MemorySink, MemorySource, PiecesSource,
+};
+use outer_world::{Sink, Source};
 use std::alloc::{AllocError, Global};
 use std::process::Abort;
 use std::test::Fail;
@@ -197,7 +199,7 @@ fn check<I: Source>(
     let words = words_of(alloc, "steps")?;
     let mut output = MemorySink::new(alloc, 1024)?;
     let mut errors = MemorySink::new(alloc, 1024)?;
-    let shelf = &mut NoShelf;
+    let shelf = &mut MemoryShelf::new(alloc);
     let status = run_plain(
         alloc,
         words.as_slice(),
@@ -256,7 +258,7 @@ fn other_words_are_refused(rt: HostRuntime) -> Result<(), Fail> {
         let mut input = MemorySource::new(Vec::from_slice(alloc, text)?);
         let mut output = MemorySink::new(alloc, 64)?;
         let mut errors = MemorySink::new(alloc, 64)?;
-        let shelf = &mut NoShelf;
+        let shelf = &mut MemoryShelf::new(alloc);
         let status = run_plain(
             alloc,
             words.as_slice(),
@@ -308,7 +310,7 @@ fn check_read_fault(
     let mut input = FailingSource::new(pieces, Vec::from_slice(alloc, &[fails])?);
     let mut output = MemorySink::new(alloc, 1024)?;
     let mut errors = MemorySink::new(alloc, 64)?;
-    let shelf = &mut NoShelf;
+    let shelf = &mut MemoryShelf::new(alloc);
     let status = run_plain(
         alloc,
         words.as_slice(),
@@ -355,7 +357,7 @@ fn a_failed_write_leaves_a_front_of_the_steps(rt: HostRuntime) -> Result<(), Fai
         let fails = Vec::from_slice(alloc, &[call])?;
         let mut output = FailingSink::new(MemorySink::new(alloc, 1024)?, fails);
         let mut errors = MemorySink::new(alloc, 64)?;
-        let shelf = &mut NoShelf;
+        let shelf = &mut MemoryShelf::new(alloc);
         let status = run_plain(
             alloc,
             words.as_slice(),
@@ -382,7 +384,7 @@ fn a_failed_error_line_changes_nothing(rt: HostRuntime) -> Result<(), Fail> {
     let mut output = MemorySink::new(alloc, 1024)?;
     let fails = Vec::from_slice(alloc, &[0])?;
     let mut errors = FailingSink::new(MemorySink::new(alloc, 64)?, fails);
-    let shelf = &mut NoShelf;
+    let shelf = &mut MemoryShelf::new(alloc);
     let status = run_plain(
         alloc,
         words.as_slice(),

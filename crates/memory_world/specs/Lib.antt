@@ -1,3 +1,5 @@
 pub mod Memory
 pub mod Pieces
 pub mod Plans
+pub mod ShelfStates
+pub mod ShelfPlans

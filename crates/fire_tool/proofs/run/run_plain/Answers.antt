@@ -2,7 +2,7 @@ use Rattle.std.proofs.Common.{map}
 use Rattle.fire_tool.proofs.CursorFacts.{command_run}
 use Rattle.fire_tool.proofs.run.run_plain.Goals as goal
 
-pub returns-in-Some : goal.returns-in-Some
-returns-in-Some g c =
+pub returns-in-Some-clause-run : goal.returns-in-Some-clause-run
+returns-in-Some-clause-run g c =
     command_run (map (λ w. w.items) c.args.words.now) c.in-Some.text.now _ _ _ c.in-Some.ensures
     (c.run_cursor_command.ensures (g.I.Source.left c.args.input.now) (g.I.Source.given c.args.input.now) (g.I.Source.read_faults c.args.input.now))
