@@ -87,6 +87,13 @@ impl FileName {
         })
     }
 
+    /// The name that a vector's bytes are. It takes no memory.
+    pub fn from_vec(text: Vec<u8>) -> FileName
+        ensures { result ≡ text.items }
+    {
+        FileName { text }
+    }
+
     /// The bytes of the name.
     pub fn as_bytes(&self) -> &[u8]
         ensures { result.now ≡ self.now }
