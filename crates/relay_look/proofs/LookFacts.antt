@@ -1,18 +1,16 @@
 -- The answer to a look, step by step.
-use Rattle.std.proofs.Common.{arith, ◌≡◌, ◌<◌, ℕ, Bool, true, false, not, cond, ◌&&◌, ◌||◌, List, [], ◌∷◌, length, Option, Some, None, refl, sym, ◌∙◌, ap, subst, nat_lt, Result, Ok, Err}
+use Rattle.std.proofs.Common.{arith, ◌≡◌, ℕ, Bool, true, false, cond, List, [], ◌∷◌, length, Option, Some, None, refl, ◌∙◌, ap, nat_lt}
 use Rattle.std.proofs.lemmas.Option.{same_Some}
 use Rattle.block_record.specs.declared.blocks.Slip.{Slip}
 use Rattle.block_record.specs.declared.blocks.BlockRef.{BlockRef}
 use Rattle.chain_model.specs.declared.places.Place.{Place}
-use Rattle.chain_model.specs.Places.{opening, IsAhead}
-use Rattle.chain_model.specs.Steps.{BlockStep, steps_of}
+use Rattle.chain_model.specs.Places.{opening}
+use Rattle.chain_model.specs.Steps.{steps_of}
 use Rattle.step_cursor.specs.declared.cursor.Cursor.{Cursor}
 use Rattle.step_cursor.specs.declared.cursor.Request.{Request}
-use Rattle.step_cursor.specs.declared.cursor.MisfitField.{MisfitField}
 use Rattle.relay_model.specs.Worlds.{World}
-use Rattle.relay_model.specs.Looks.{Batch, NotYet, StopBelow, end_num, is_ahead, is_final_by, look_cursor, look_fitted, look_from, look_known, look_open, misfit, stops_below, unknown}
-use Rattle.relay_model.specs.Looks as rule
-use Rattle.relay_look.specs.Answers.{Shows, LooksAt, idle_or_done, sends, stop_passed}
+use Rattle.relay_model.specs.Looks.{Batch, NotYet, StopBelow, end_num, is_ahead, look_cursor, look_from, look_known, look_open, stops_below, unknown}
+use Rattle.relay_look.specs.Answers.{idle_or_done, sends, stop_passed}
 
 -- the stop is below the end, or not
 pub passed : (stop : Option ℕ) (end : Option BlockRef) (n : ℕ) → stop_passed stop end ≡ Some n → (stops_below stop end ≡ true) × (end_num end ≡ n)

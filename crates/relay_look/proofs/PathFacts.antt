@@ -1,8 +1,8 @@
 -- What a history tells of a block that is named.
-use Rattle.std.proofs.Common.{arith, ◌≡◌, ◌≤◌, ◌<◌, ℕ, Bool, true, false, List, [], ◌∷◌, length, Option, Some, None, refl, sym, ◌∙◌, ap, subst}
+use Rattle.std.proofs.Common.{◌≡◌, ◌≤◌, ◌<◌, ℕ, Bool, true, false, List, length, Option, Some, None, refl, sym, ◌∙◌, ap}
 use Rattle.std.proofs.lemmas.Bool.{both_ways}
 use Rattle.block_record.specs.declared.blocks.Slip.{Slip}
-use Rattle.chain_model.specs.Ancestry.{ancestry, find_id, has_id}
+use Rattle.chain_model.specs.Ancestry.{ancestry, has_id}
 use Rattle.chain_model.specs.Finality.{ancestry_of, final_tip, on_path}
 use Rattle.chain_laws.proofs.Lines.{has_id-ancestry}
 use Rattle.block_tree.specs.Places.{place_of, slip_at, slip_of}

@@ -97,9 +97,7 @@ fn lib_fits(db: &ForkDb, end: &Option<BlockRef>, lib: &Option<BlockRef>) -> bool
 {
     match lib {
         Some(lib) => {
-            is_held(db, lib)
-                && is_final(db, &lib.id)
-                && is_on_path(db, &lib.id, place_in(db, end))
+            is_held(db, lib) && is_final(db, &lib.id) && is_on_path(db, &lib.id, place_in(db, end))
         }
         None => false,
     }

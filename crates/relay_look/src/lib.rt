@@ -5,6 +5,8 @@ mod answers;
 mod cursors;
 mod looks;
 mod paths;
+#[cfg(test)]
+mod tests;
 
 pub use answers::{Look, LookFault, Position};
 pub use looks::look;

@@ -43,12 +43,7 @@ pub fn look(
 }
 
 /// The answer at the start.
-fn look_start(
-    db: &ForkDb,
-    run: u64,
-    is_closed: bool,
-    request: &Request,
-) -> Result<Look, LookFault>
+fn look_start(db: &ForkDb, run: u64, is_closed: bool, request: &Request) -> Result<Look, LookFault>
     ensures said { (w : World) → LooksAt w db.now.history run is_closed
         → IsLook (look_start_in w request.now request.now.cursor) result }
     ensures given { HasBatchOf db.now.history request.now result }

@@ -1,4 +1,4 @@
-use Rattle.std.proofs.Common.{ap, sym, ◌∙◌, ◌≡◌, subst, true, false, not}
+use Rattle.std.proofs.Common.{ap, sym, ◌∙◌, ◌≡◌, subst}
 use Rattle.relay_model.specs.Looks.{is_ahead, look_cursor, look_known, unknown}
 use Rattle.relay_look.specs.Answers.{IsLook}
 use Rattle.relay_look.proofs.LookFacts.{cursor_closed, cursor_within}

@@ -1,4 +1,4 @@
-use Rattle.std.proofs.Common.{ap, sym, ◌∙◌, ◌≡◌, subst, true, length, arith}
+use Rattle.std.proofs.Common.{ap, sym, ◌∙◌, subst, true}
 use Rattle.chain_model.specs.Places.{PlaceFits}
 use Rattle.chain_laws.proofs.Ends.{opening_fits}
 use Rattle.relay_model.specs.Looks.{look_from}

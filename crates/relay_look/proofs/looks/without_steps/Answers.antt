@@ -1,4 +1,3 @@
-use Rattle.std.proofs.Common.{arith}
 use Rattle.relay_look.proofs.looks.without_steps.Goals as goal
 
 pub returns-else-is_final_by-clause-given : goal.returns-else-is_final_by-clause-given
