@@ -1,10 +1,10 @@
 -- Facts of a waiting room: the slips of the blocks that wait, one more, and one fewer.
-use Rattle.std.proofs.Common.{arith, ◌≡◌, ◌<◌, ◌≤◌, ◌+◌, ◌-◌, ◌⊎◌, inl, inr, ℕ, zero, suc, Bool, true, false, not, ltb, leb, cond, IsTrue, ◌||◌, ◌&&◌, ◌++◌, Option, Some, None, List, [], ◌∷◌, map, reverse, length, take, drop, get_or, refl, sym, ◌∙◌, ap, subst}
+use Rattle.std.proofs.Common.{arith, ◌≡◌, ◌<◌, ◌≤◌, ◌+◌, ◌-◌, ◌⊎◌, inl, inr, ℕ, zero, suc, Bool, true, false, not, ltb, leb, cond, IsTrue, ◌||◌, ◌&&◌, ◌++◌, Option, Some, None, List, [], ◌∷◌, map, reverse, length, refl, sym, ◌∙◌, ap, subst}
 use Rattle.std.specs.Arc.{arc_value}
 use Rattle.std.specs.List.{All, AllByRecursion, filter, find, remove, slice_get, list_any}
 use Rattle.std.specs.Option.{option_map, option_or}
 use Rattle.std.proofs.lemmas.Bool.{and_parts, cases_Bool, leb-true, le-leb, lt-ltb, or_parts, both_ways, false_from_ne_true}
-use Rattle.std.proofs.lemmas.List.{append_assoc, map-append, map-id, length_push}
+use Rattle.std.proofs.lemmas.List.{map-append, map-id, length_push}
 use Rattle.std.proofs.lemmas.List.Elements.{recursion_from_All, All-filter, All-push}
 use Rattle.std.proofs.lemmas.List.Folds.{find-append, list_any-append}
 use Rattle.std.proofs.lemmas.Bool.Decides.{leb_tells}
@@ -19,10 +19,10 @@ use Rattle.chain_model.specs.Ancestry.{find_id, has_id}
 use Rattle.relay_model.specs.Soundness.{IsDistinct}
 use Rattle.relay_model.proofs.Intakes.{distinct_filter}
 use Rattle.relay_model.specs.Worlds.{descendants, descends, room_bytes, without}
-use Rattle.relay_model.proofs.Sound.{lacks_each, none_found, swap_ids}
+use Rattle.relay_model.proofs.Sound.{swap_ids}
 use Rattle.wait_room.specs.declared.waiters.Waiter.{Waiter}
 use Rattle.wait_room.specs.Rooms.{slips_of, blocks_of, waiting_of, held_of, HasOwnSlip, Room, blocks_without, find_block, fits_in}
-use Rattle.wait_room.proofs.TurnedFacts.{all_from, all_of, all_unmapped, filter_all, filter_turned, map_filter, map_turned, turned_cons, turned_push}
+use Rattle.wait_room.proofs.TurnedFacts.{all_from, all_of, filter_all, filter_turned, map_filter, map_turned, turned_cons, turned_push}
 
 abbrev pub room_of : List Slip → List Block → ℕ → ℕ → Room
 room_of w h b n = record { waiting = w; held = h; most_blocks = b; most_bytes = n }
@@ -200,8 +200,8 @@ taken_out xs i w e d all =
     record {
       waiting = ap waiting_of left ∙ slips_filtered (is_other id) (λ s. not (same_id s.id id)) xs (λ _. refl);
       held = ap held_of left
-      ∙ blocks_filtered (is_other id) (λ b. not (same_id b.id id)) xs
-      (all_from HasOwnSlip (λ x. is_other id x ≡ not (same_id (arc_value x.block).id id)) (λ x o. ap (λ (s : Slip). not (same_id s.id id)) o) xs own);
+          ∙ blocks_filtered (is_other id) (λ b. not (same_id b.id id)) xs
+          (all_from HasOwnSlip (λ x. is_other id x ≡ not (same_id (arc_value x.block).id id)) (λ x o. ap (λ (s : Slip). not (same_id s.id id)) o) xs own);
       block = ap (λ (s : Slip). find_block (held_of xs) s.id) mine ∙ find_turned slip (blocks_of xs) (arc_value w.block).id blocks ∙ find_here slip (blocks_of xs) i (arc_value w.block) at blocks;
       distinct = subst IsDistinct (sym (ap slips_of left ∙ map_filter (λ (x : Waiter). x.slip) (is_other id) (λ s. not (same_id s.id id)) xs (all_of (λ x. is_other id x ≡ is_other id x) (λ _. refl) xs))) (distinct_filter (λ s. not (same_id s.id id)) (slips_of xs) d);
       mine = mine;

@@ -1,6 +1,6 @@
 -- Scans of the waiting blocks, one block further.
-use Rattle.std.proofs.Common.{arith, ◌≡◌, ◌<◌, ◌≤◌, ◌+◌, ℕ, zero, suc, Bool, true, false, cond, Option, Some, None, List, [], ◌∷◌, map, reverse, length, take, drop, get_or, refl, sym, ◌∙◌, ap}
-use Rattle.std.specs.List.{filter, slice_get}
+use Rattle.std.proofs.Common.{◌≡◌, ◌<◌, ◌+◌, ℕ, Bool, true, false, cond, Option, Some, List, length, take, drop, get_or, refl, sym, ◌∙◌, ap}
+use Rattle.std.specs.List.{slice_get}
 use Rattle.std.specs.Option.{option_map}
 use Rattle.std.proofs.lemmas.List.{reverse-reverse, drop_more}
 use Rattle.std.proofs.lemmas.Option.{slice_get-get_or, slice_get-map, slice_get_read}

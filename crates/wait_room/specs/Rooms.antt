@@ -1,5 +1,6 @@
 -- What callers see of a waiting room.
 use Rattle.std.specs.Prelude.{ℕ, ◌≡◌, ◌+◌, Bool, not, ◌&&◌, nat_le, nat_lt, List, ◌∷◌, length, map, reverse, filter, find, Option, None, Some}
+use Rattle.std.specs.List.{list_any}
 use Rattle.std.specs.Arc.{arc_value}
 use Rattle.block_record.specs.declared.blocks.Block.{Block}
 use Rattle.block_record.specs.declared.blocks.Slip.{Slip}
@@ -42,6 +43,10 @@ room_above num room = record room {
 -- the block with this id
 abbrev pub find_block : List Block → List ℕ → Option Block
 find_block blocks id = find (λ b. same_id b.id id) blocks
+
+-- whether a waiting block names the id as its parent's
+abbrev pub has_child : List Slip → List ℕ → Bool
+has_child waiting id = list_any (λ s. same_id s.parent_id id) waiting
 
 -- the slips of waiting blocks, in order of arrival
 abbrev pub slips_of : List Waiter → List Slip

@@ -8,10 +8,10 @@ ghost use Rattle.chain_model.specs.Ancestry.{find_id, has_id};
 ghost use Rattle.relay_model.specs.Soundness.{IsDistinct};
 ghost use Rattle.relay_model.specs.Worlds.{descendants as descendants_in, descends as descends_in, next_waiting, room_bytes};
 ghost use Rattle.block_tree.specs.Places.{slip_at};
-ghost use Rattle.wait_room.specs.Rooms.{find_block, fits_in, room_above, room_without, with_block};
+ghost use Rattle.wait_room.specs.Rooms.{find_block, fits_in, has_child as has_child_in, room_above, room_without, with_block};
 
 use crate::holds::Holds;
-use crate::scans::{bytes_of, has_child, keep_above, least_linked, lowest_of};
+use crate::scans::{bytes_of, keep_above, least_linked, lowest_of, names_parent};
 use crate::waiters::Waiter;
 use block_record::{Block, Id, Slip};
 use indexmap::IndexSet;
@@ -108,11 +108,18 @@ impl WaitRoom {
         }
     }
 
+    /// Whether a waiting block names the id as its parent's.
+    pub fn has_child(&self, id: &Id) -> bool
+        ensures { result ≡ has_child_in self.now.waiting id.now }
+    {
+        names_parent(self.waiters.as_slice(), id)
+    }
+
     /// How many waiting blocks have a chain of parent ids inside the room that leads to the id.
     pub fn descendants(&self, id: &Id) -> Result<u64, AllocError>
         ensures { IfOk result (λ n. n ≡ descendants_in self.now.waiting id.now) }
     {
-        if !has_child(self.waiters.as_slice(), id) {
+        if !self.has_child(id) {
             return Ok(0);
         }
         Ok(self.count_descendants(id))

@@ -1,12 +1,11 @@
 //! Scans of the waiting blocks, in order of arrival.
 
 ghost use Rattle.std.specs.Prelude.{◌≡◌, ◌<◌, ◌≤◌, ◌^◌, length, filter, nat_lt, IfSome, Some};
-ghost use Rattle.std.specs.List.{All, list_any};
-ghost use Rattle.block_record.specs.Ids.{same_id};
+ghost use Rattle.std.specs.List.{All};
 ghost use Rattle.block_record.specs.declared.blocks.Slip.{Slip as SlipOf};
 ghost use Rattle.block_tree.specs.Places.{slip_at, slip_of};
 ghost use Rattle.relay_model.specs.Worlds.{lesser, next_waiting, room_bytes};
-ghost use Rattle.wait_room.specs.Rooms.{slips_of, waiting_of};
+ghost use Rattle.wait_room.specs.Rooms.{has_child, slips_of, waiting_of};
 
 use crate::holds::Holds;
 use crate::waiters::Waiter;
@@ -76,8 +75,8 @@ pub fn lowest_of(waiters: &[Waiter]) -> u64
 }
 
 /// Whether a waiting block names the id as its parent's.
-pub fn has_child(waiters: &[Waiter], id: &Id) -> bool
-    ensures { result ≡ list_any (λ s. same_id s.parent_id id.now) (slips_of waiters.now) }
+pub fn names_parent(waiters: &[Waiter], id: &Id) -> bool
+    ensures { result ≡ has_child (slips_of waiters.now) id.now }
 {
     for waiter in waiters {
         if waiter.slip.parent_id == *id {

@@ -25,12 +25,14 @@ enum Call {
     /// The tag of the block.
     Find(&'static str),
     Descendants(&'static str),
+    /// 1 where a block names the id as its parent's, else 0.
+    HasChild(&'static str),
     /// The tag of the block that is taken, where these blocks are held.
     Take(&'static [&'static str]),
     DropThrough(u64),
 }
 
-use Call::{Blocks, Bytes as HeldBytes, Descendants, DropThrough, Find, Fits, Put, Take};
+use Call::{Blocks, Bytes as HeldBytes, Descendants, DropThrough, Find, Fits, HasChild, Put, Take};
 
 /// The calls of a room for 4 blocks and 10 bytes.
 const ROOM: &[(Call, Option<u64>)] = &[
@@ -49,6 +51,8 @@ const ROOM: &[(Call, Option<u64>)] = &[
     (Descendants("w4"), Some(2)),
     (Descendants("b2"), Some(2)),
     (Descendants("z6"), Some(0)),
+    (HasChild("x5"), Some(1)),
+    (HasChild("z6"), Some(0)),
     (Take(&["a1"]), None),
     // The least number, and of two with one number the one that came first.
     (Take(&["w4", "b2"]), Some(2)),
@@ -109,6 +113,7 @@ fn answer(
         HeldBytes => Ok(Some(room.bytes())),
         Find(id) => find(rt, alloc, room, id),
         Descendants(id) => count(rt, alloc, room, id),
+        HasChild(id) => Ok(Some(u64::from(room.has_child(&id_of(rt, alloc, id)?)))),
         Take(ids) => take(rt, alloc, room, ids),
         DropThrough(num) => {
             room.drop_through(num);
@@ -127,9 +132,13 @@ fn put(
     let slip = slip_of(alloc, &block)?;
     let block = Arc::new(alloc, block)?;
     assert!(rt; room.fits(u64::from(slip.length)));
-    assert!(rt; room.find(&slip.id).is_none());
-    room.put(slip, block)?;
-    Ok(None)
+    match room.find(&slip.id) {
+        Some(held) => Ok(Some(held.time)),
+        None => {
+            room.put(slip, block)?;
+            Ok(None)
+        }
+    }
 }
 
 fn find(
@@ -160,7 +169,7 @@ fn take(
 ) -> Result<Option<u64>, AllocError> {
     let mut slips = Vec::new(alloc);
     for text in texts {
-        let block = block_of(rt, alloc, (0, 1, *text, "-", b""))?;
+        let block = block_of(rt, alloc, (0, 1, *text, "p0", b""))?;
         slips.push(slip_of(alloc, &block)?)?;
     }
     let taken = room.take_next(&Known { slips });

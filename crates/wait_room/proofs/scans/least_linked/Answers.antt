@@ -1,4 +1,4 @@
-use Rattle.std.proofs.Common.{◌≡◌, ◌<◌, ap, sym, ◌∙◌, false, true, length, subst, Option, ℕ, IfSome}
+use Rattle.std.proofs.Common.{◌<◌, ap, sym, ◌∙◌, length, subst, Option, ℕ, IfSome}
 use Rattle.chain_model.specs.Ancestry.{has_id}
 use Rattle.block_tree.specs.Places.{slip_of}
 use Rattle.wait_room.specs.declared.waiters.Waiter.{Waiter}
@@ -15,12 +15,12 @@ loop-i-preserved g c =
     elim c.if-holds.branch [
       | then-holds w ↦ record {
         least = ap (slip_of (waiting_of ws)) w.best-is
-        ∙ next_linked held ws c.loop-i.i c.index-waiters-i.result c.loop-i.best w.lesser_of.result c.loop-i-test.true c.index-waiters-i.is (parent ∙ w.if-holds.true) c.loop-i.invariant.least w.lesser_of.ensures.lesser;
+            ∙ next_linked held ws c.loop-i.i c.index-waiters-i.result c.loop-i.best w.lesser_of.result c.loop-i-test.true c.index-waiters-i.is (parent ∙ w.if-holds.true) c.loop-i.invariant.least w.lesser_of.ensures.lesser;
         range = subst (λ (o : Option ℕ). IfSome o (λ b. b < length ws)) (sym w.best-is) w.lesser_of.ensures.range;
       }
       | else-holds w ↦ record {
         least = ap (slip_of (waiting_of ws)) w.best-is
-        ∙ next_passed held ws c.loop-i.i c.index-waiters-i.result c.loop-i.best c.loop-i-test.true c.index-waiters-i.is (parent ∙ w.if-holds.false) c.loop-i.invariant.least;
+            ∙ next_passed held ws c.loop-i.i c.index-waiters-i.result c.loop-i.best c.loop-i-test.true c.index-waiters-i.is (parent ∙ w.if-holds.false) c.loop-i.invariant.least;
         range = subst (λ (o : Option ℕ). IfSome o (λ b. b < length ws)) (sym w.best-is) c.loop-i.invariant.range;
       }
     ]

@@ -6,5 +6,5 @@ use Rattle.wait_room.proofs.room.WaitRoom.count_descendants.Given as goal
 abbrev pub invariant-loop-waiter : goal.invariant-loop-waiter
 invariant-loop-waiter l = record {
   count : l.count ≡ length (filter (descends (length l.self.waiting) l.self.waiting l.id) (waiting_of (take l.waiter-index l.waiters)));
-  small : l.count ≤ l.waiter-index
+  small : l.count ≤ l.waiter-index;
 }

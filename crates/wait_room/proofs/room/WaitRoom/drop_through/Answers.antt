@@ -1,4 +1,4 @@
-use Rattle.std.proofs.Common.{arith, ◌≡◌, ◌≤◌, length, ap, sym, ◌∙◌, ltb, filter, subst}
+use Rattle.std.proofs.Common.{arith, ◌≤◌, length, ap, sym, ◌∙◌, ltb, subst}
 use Rattle.std.specs.List.{All}
 use Rattle.std.proofs.lemmas.List.Elements.{All-filter}
 use Rattle.block_record.specs.declared.blocks.Slip.{Slip}
@@ -6,7 +6,7 @@ use Rattle.relay_model.specs.Soundness.{IsDistinct}
 use Rattle.relay_model.specs.Worlds.{room_bytes}
 use Rattle.relay_model.proofs.Intakes.{distinct_filter}
 use Rattle.wait_room.specs.declared.waiters.Waiter.{Waiter}
-use Rattle.wait_room.specs.Rooms.{Room, HasOwnSlip, room_above, slips_of, waiting_of, held_of}
+use Rattle.wait_room.specs.Rooms.{HasOwnSlip, room_above, slips_of, waiting_of, held_of}
 use Rattle.wait_room.proofs.RoomFacts.{above_held, above_waiting, above_slips, bytes_filtered, length_filtered, none_below, same_room}
 use Rattle.wait_room.proofs.room.WaitRoom.drop_through.Goals as goal
 

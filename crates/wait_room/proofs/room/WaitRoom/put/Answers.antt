@@ -1,4 +1,4 @@
-use Rattle.std.proofs.Common.{arith, ◌≡◌, ◌≤◌, ◌<◌, ◌+◌, ◌∷◌, ap, sym, ◌∙◌, false, subst, length}
+use Rattle.std.proofs.Common.{arith, ◌≡◌, ◌≤◌, ap, sym, ◌∙◌, false, subst, length}
 use Rattle.std.proofs.lemmas.List.{length-map, length-reverse}
 use Rattle.std.proofs.lemmas.List.Elements.{All-weaker}
 use Rattle.chain_model.specs.Ancestry.{has_id}
@@ -24,8 +24,7 @@ invariant_of-self-2 c =
     let len = ap (λ (v : Room). length v.waiting) c.self.view_is in
     let w : Waiter = record { slip = c.args.slip; block = c.args.block } in
     let fresh = subst (λ (v : Room). has_id v.waiting c.args.slip.id ≡ false) (sym c.self.view_is) c.requires.fresh in
-    let is = put_in _ _ w c.in_ok-insert.ensures.keys fresh c.self.invariant.0 c.self.invariant.1 c.requires.own in
-    (
+    let is = put_in _ _ w c.in_ok-insert.ensures.keys fresh c.self.invariant.0 c.self.invariant.1 c.requires.own in (
       is.distinct,
       is.own,
       is.above c.min-lowest.result (omega arith) (All-weaker (λ x. c.self.inside.lowest ≤ x.slip.num) (λ x. c.min-lowest.result ≤ x.slip.num) (λ x le. omega arith) c.self.inside.waiters.keys c.self.invariant.2),

@@ -1,4 +1,4 @@
-use Rattle.std.proofs.Common.{arith, ◌≡◌, ◌≤◌, ◌+◌, Some, ap, sym, ◌∙◌, subst, length}
+use Rattle.std.proofs.Common.{arith, ◌≡◌, ◌≤◌, Some, ap, sym, ◌∙◌, subst}
 use Rattle.std.specs.List.{All, slice_get}
 use Rattle.std.specs.Option.{option_map}
 use Rattle.block_tree.specs.Places.{slip_at}
@@ -6,7 +6,7 @@ use Rattle.relay_model.specs.Soundness.{IsDistinct}
 use Rattle.relay_model.specs.Worlds.{room_bytes}
 use Rattle.wait_room.specs.declared.waiters.Waiter.{Waiter}
 use Rattle.wait_room.specs.Rooms.{HasOwnSlip, Room, find_block, held_of, room_without, slips_of, waiting_of}
-use Rattle.wait_room.proofs.RoomFacts.{IsTakenOut, all_removed, removed_bytes, taken_out, same_room}
+use Rattle.wait_room.proofs.RoomFacts.{all_removed, removed_bytes, taken_out, same_room}
 use Rattle.wait_room.proofs.ScanFacts.{slip_at_slices}
 use Rattle.wait_room.proofs.room.WaitRoom.take_at.Goals as goal
 
