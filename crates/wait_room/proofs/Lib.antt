@@ -1,0 +1,3 @@
+pub mod TurnedFacts
+pub mod RoomFacts
+pub mod ScanFacts

@@ -1,0 +1,12 @@
+//! The room where blocks wait for their parents.
+#![tactic(auto)]
+
+mod holds;
+mod room;
+mod scans;
+#[cfg(test)]
+mod tests;
+mod waiters;
+
+pub use holds::Holds;
+pub use room::WaitRoom;

@@ -1,0 +1,94 @@
+//! Scans of the waiting blocks, in order of arrival.
+
+ghost use Rattle.std.specs.Prelude.{◌≡◌, ◌<◌, ◌≤◌, ◌^◌, length, filter, nat_lt, IfSome, Some};
+ghost use Rattle.std.specs.List.{All};
+ghost use Rattle.block_record.specs.declared.blocks.Slip.{Slip as SlipOf};
+ghost use Rattle.block_tree.specs.Places.{slip_at, slip_of};
+ghost use Rattle.relay_model.specs.Worlds.{lesser, next_waiting, room_bytes};
+ghost use Rattle.wait_room.specs.Rooms.{has_child, slips_of, waiting_of};
+
+use crate::holds::Holds;
+use crate::waiters::Waiter;
+use block_record::{Id, Slip};
+use indexmap::IndexSet;
+
+/// Of the blocks whose parents are held, where the one with the least number stands, among equals
+/// the earliest.
+pub fn least_linked<H: Holds>(waiters: &[Waiter], held: &H) -> Option<usize>
+    ensures least { slip_of (waiting_of waiters.now) result
+        ≡ next_waiting (H.history held.now) (waiting_of waiters.now) }
+    ensures range { IfSome result (λ at. at < length waiters.now) }
+{
+    let mut best = None;
+    for i in 0..waiters.len() {
+        if held.holds(&waiters[i].slip.parent_id) {
+            best = Some(lesser_of(waiters, best, i));
+        }
+    }
+    best
+}
+
+/// The one with the lesser number, and of two with one number the first.
+fn lesser_of(waiters: &[Waiter], best: Option<usize>, next: usize) -> usize
+    requires range { next < length waiters.now }
+    requires best { IfSome best (λ b. b < length waiters.now) }
+    ensures lesser { (s : SlipOf) → slip_at (waiting_of waiters.now) next ≡ Some s
+        → slip_at (waiting_of waiters.now) result
+        ≡ lesser (slip_of (waiting_of waiters.now) best) s }
+    ensures range { result < length waiters.now }
+{
+    match best {
+        Some(b) if slip_in(waiters, next).num >= slip_in(waiters, b).num => b,
+        _ => next,
+    }
+}
+
+/// The slip at a place.
+fn slip_in(waiters: &[Waiter], at: usize) -> &Slip
+    requires { at < length waiters.now }
+    ensures { slip_at (waiting_of waiters.now) at ≡ Some result.now }
+{
+    &waiters[at].slip
+}
+
+/// The bytes of the payloads that wait.
+pub fn bytes_of(waiters: &[Waiter]) -> u64
+    requires { room_bytes (slips_of waiters.now) < 2 ^ 64 }
+    ensures { result ≡ room_bytes (slips_of waiters.now) }
+{
+    let mut bytes = 0;
+    for waiter in waiters {
+        bytes += u64::from(waiter.slip.length);
+    }
+    bytes
+}
+
+/// The least number of a block that waits; the greatest of all numbers where none does.
+pub fn lowest_of(waiters: &[Waiter]) -> u64
+    ensures { All (λ w. result ≤ w.slip.num) waiters.now }
+{
+    let mut lowest = u64::MAX;
+    for waiter in waiters {
+        lowest = lowest.min(waiter.slip.num);
+    }
+    lowest
+}
+
+/// Whether a waiting block names the id as its parent's.
+pub fn names_parent(waiters: &[Waiter], id: &Id) -> bool
+    ensures { result ≡ has_child (slips_of waiters.now) id.now }
+{
+    for waiter in waiters {
+        if waiter.slip.parent_id == *id {
+            return true;
+        }
+    }
+    false
+}
+
+/// Removes the blocks with a number of at most `num`.
+pub fn keep_above(waiters: &mut IndexSet<Waiter>, num: u64)
+    ensures { waiters.new.keys ≡ filter (λ w. nat_lt num w.slip.num) waiters.old.keys }
+{
+    waiters.retain(|waiter| num < waiter.slip.num);
+}
