@@ -1,0 +1,2 @@
+pub mod JudgedFacts
+pub mod KeptFacts
