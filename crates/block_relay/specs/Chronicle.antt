@@ -1,5 +1,6 @@
 -- What callers see of a relay, and what it keeps of it.
 use Rattle.std.specs.Prelude.{ℕ, ◌≡◌, Bool, true, false, List, [], ◌∷◌, ◌++◌, Option, None, Some, reverse}
+use Rattle.std.specs.Str.{bytes_eq}
 use Rattle.block_record.specs.declared.blocks.Slip.{Slip}
 use Rattle.block_record.specs.declared.blocks.Kind.{Kind as NodeKind}
 use Rattle.relay_model.specs.declared.answers.Conflict.{Conflict as Clash}
@@ -59,3 +60,22 @@ pub record IsKept (w : World) (db : Forks) (room : Room) (kept : Option NodeKind
 abbrev pub closed_entries : Bool → List Entry → List Entry
 closed_entries true es = es
 closed_entries false es = Closed ∷ es
+
+-- whether a mark of the kind is among them
+abbrev pub has_kind_mark : List Mark → Bool
+has_kind_mark [] = false
+has_kind_mark (mark.Kind ∷ ms) = true
+has_kind_mark (mark.Admitted ∷ ms) = has_kind_mark ms
+has_kind_mark (mark.Waited ∷ ms) = has_kind_mark ms
+has_kind_mark (mark.Stored at ∷ ms) = has_kind_mark ms
+has_kind_mark (mark.Closed ∷ ms) = has_kind_mark ms
+
+-- whether nodes of a kind may feed a relay that keeps another: they have blocks of one type
+abbrev pub may_greet : Option NodeKind → NodeKind → Bool
+may_greet None k = true
+may_greet (Some held) k = bytes_eq held.block_type k.block_type
+
+-- the entries after nodes of a kind said so: the first kind is kept
+abbrev pub greeted : Option NodeKind → NodeKind → List Entry → List Entry
+greeted None k es = Kind k ∷ es
+greeted (Some held) k es = es
