@@ -1,2 +1,3 @@
 pub mod JudgedFacts
 pub mod KeptFacts
+pub mod CountFacts
