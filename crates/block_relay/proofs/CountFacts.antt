@@ -14,6 +14,7 @@ use Rattle.relay_model.specs.Offers.{Intake, clash, intake, take_judged, take_on
 use Rattle.relay_model.specs.Soundness.{IsDistinct, IsSound}
 use Rattle.relay_model.proofs.Intakes.{IsTaken, all_filter, distinct_filter, find_of, next_is, without_short}
 use Rattle.relay_model.proofs.Entries.{distinct_found}
+use Rattle.block_relay.specs.Taking.{Counted}
 
 -- a link more does no harm
 any_implied : (f g : Slip → Bool) → ((x : Slip) → f x ≡ true → g x ≡ true) → (j : List ℕ) (xs : List Slip) → list_any (λ p. same_id p.id j && f p) xs ≡ true → list_any (λ p. same_id p.id j && g p) xs ≡ true
@@ -106,17 +107,6 @@ one_fewer f (y ∷ ys) x e h =
     kept : (b : Bool) → length (filter f (without x ys)) + 1 ≤ length (filter f ys) → length (cond b (y ∷ filter f (without x ys)) (filter f (without x ys))) + 1 ≤ length (cond b (y ∷ filter f ys) (filter f ys))
     kept true h = omega (arith, h)
     kept false h = h
-
--- what holds while the waiting blocks are taken that follow an admitted block: the more blocks of the history waited and descend from it, and so does each that is taken next
-pub record Counted (w : World) (s : Slip) (d : Intake) : Type 0 where
-  pub more : List Slip
-  pub history : d.history ≡ more ++ s ∷ w.history
-  pub held : AllByRecursion (λ y. (find_id w.waiting y.id ≡ Some y) × (descends (length more) w.waiting s.id y ≡ true)) more
-  pub found : AllByRecursion (λ x. find_id w.waiting x.id ≡ Some x) d.waiting
-  pub orphans : AllByRecursion (λ x. has_id w.history x.parent_id ≡ false) d.waiting
-  pub short : length more + length d.waiting ≤ length w.waiting
-  pub distinct : IsDistinct d.waiting
-  pub count : length more + length (filter (descends (length w.waiting) w.waiting s.id) d.waiting) ≤ descendants w.waiting s.id
 
 pub counts_first : (w : World) (s : Slip) → IsSound w → Counted w s (record { history = s ∷ w.history; waiting = w.waiting; dropped = [] })
 counts_first w s sound = record {

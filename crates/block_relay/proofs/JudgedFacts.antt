@@ -1,16 +1,18 @@
 -- The rule that decides an offer, step by step.
-use Rattle.std.proofs.Common.{arith, ◌≡◌, ◌<◌, ◌≤◌, ◌==◌, ◌&&◌, ℕ, Bool, true, false, cond, List, [], ◌∷◌, ◌++◌, length, Option, Some, None, refl, sym, ◌∙◌, ap, subst, IsSome, nat_le, nat_lt}
+use Rattle.std.proofs.Common.{arith, ◌≡◌, ◌<◌, ◌≤◌, ◌==◌, ◌&&◌, ℕ, Bool, true, false, cond, List, [], ◌∷◌, ◌++◌, length, Option, Some, None, refl, sym, ◌∙◌, ap, subst, inl, inr, suc, is_some, IsSome, nat_le, nat_lt}
 use Rattle.std.specs.Option.{option_or}
 use Rattle.std.specs.List.{find}
 use Rattle.std.proofs.lemmas.List.Folds.{find-append}
+use Rattle.std.proofs.lemmas.Bool.{cases_Bool, cases_eq}
 use Rattle.std.proofs.lemmas.Option.{same_Some}
+use Rattle.relay_model.specs.declared.answers.Conflict.{Conflict as Clash}
 use Rattle.block_record.specs.declared.blocks.Slip.{Slip}
 use Rattle.block_record.specs.Ids.{same_id}
 use Rattle.chain_model.specs.Ancestry.{find_id, has_id, IsHistory}
 use Rattle.chain_model.specs.Finality.{root_num, claim, final_tip}
 use Rattle.block_tree.specs.Places.{slip_at, slip_of}
 use Rattle.block_tree.proofs.PlaceFacts.{slip_at_past}
-use Rattle.fork_db.specs.Verdicts.{verdict_of, agrees_with, agrees_next, claim_verdict, parent_verdict}
+use Rattle.fork_db.specs.Verdicts.{verdict_of, fits, agrees_with, agrees_next, claim_verdict, parent_verdict}
 use Rattle.fork_db.specs.declared.db.Verdict.{Verdict}
 use Rattle.fork_db.specs.declared.db.Verdict.TheVariants as verdict
 use Rattle.fork_db.proofs.ClaimFacts.{tip_there}
@@ -118,3 +120,40 @@ above_root w s h e some high =
     by : (l : List Slip) → w.history ≡ l → 0 < length l → root_num l < s.num → judge_parent w s (find_id w.history s.parent_id) ≡ judge_linked w s l
     by [] is lt high = absurd (omega arith)
     by (t ∷ older) is lt high = sym (ap (λ b. cond b Late (judge_parent w s (find_id w.history s.parent_id))) (over s.num (root_num w.history) (subst (λ l. root_num l < s.num) (sym is) high)))
+
+-- a block whose parent is held and that contradicts nothing may come next
+agrees_from : (newest : List Slip) (s : Slip) → finality_clash newest s (final_tip newest) ≡ None → agrees_next newest s ≡ true
+agrees_from newest s e = by (final_tip newest) e
+  where
+    yes : (t : Slip) (b : Bool) → cond b None (Some (conflict kind.Finality t s)) ≡ None → b ≡ true
+    yes t true e = refl
+    yes t false e = absurd (grind (arith, e))
+    by : (o : Option Slip) → finality_clash newest s o ≡ None → agrees_with (s ∷ newest) o (claim (s ∷ newest) s) ≡ true
+    by None e = refl
+    by (Some t) e = same_test (s ∷ newest) t (claim (s ∷ newest) s) ∙ yes t (claim_agrees (s ∷ newest) (claim (s ∷ newest) s) (Some t)) e
+
+pub fits_child : (newest : List Slip) (s p : Slip) → find_id newest s.parent_id ≡ Some p → clash newest s ≡ None → has_id newest s.id ≡ false → s.parent_num < s.num → verdict_of newest s ≡ fits
+fits_child newest s p found none fresh less =
+    elim (cases_eq p.num s.parent_num) [
+      | inl same ↦ verdict_is newest s p found same less fresh ∙ ap (λ b. cond b verdict.Fits verdict.Disagrees) (agrees_from newest s (sym (clash_is newest s p found same) ∙ none))
+      | inr other ↦ absurd (no_clash (conflict kind.Parent p s) (sym none ∙ clash_num newest s p found other))
+    ]
+  where
+    no_clash : (c : Clash) → None ≡ Some c → ⊥
+    no_clash c e = grind (arith, e)
+
+-- a place in range has a block
+pub slip_there : (newest : List Slip) (at : ℕ) → at < length newest → (t : Slip) × (slip_at newest at ≡ Some t)
+slip_there [] at lt = absurd (omega arith)
+slip_there (s ∷ older) at lt =
+    elim (cases_Bool (at == length older)) [
+      | inl top ↦ (s, rw top refl)
+      | inr below ↦ let r = slip_there older at (under at (length older) below lt) in (r.0, rw below r.1)
+    ]
+  where
+    under : (a n : ℕ) → (a == n) ≡ false → a < suc n → a < n
+    under a n e lt = grind (arith, e)
+
+pub some_is : (o : Option ℕ) → is_some o ≡ true → IsSome o
+some_is None e = absurd (grind (arith, e))
+some_is (Some n) e = refl

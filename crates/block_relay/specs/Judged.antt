@@ -1,6 +1,6 @@
 -- The rule that decides an offer, as the code tells it.
 use Rattle.std.specs.Prelude.{ℕ, ◌≡◌, Bool, List, ◌++◌, Option, None, Some}
-use Rattle.std.specs.Borrow.{Bor}
+use Rattle.block_tree.specs.Places.{slip_at}
 use Rattle.block_record.specs.declared.blocks.Slip.{Slip}
 use Rattle.relay_model.specs.declared.answers.Conflict.{Conflict as Clash}
 use Rattle.relay_model.specs.declared.answers.ConflictKind.{ConflictKind}
@@ -22,10 +22,15 @@ verdict_of_judged w s judged.NoRoom = NoRoom
 verdict_of_judged w s judged.Waits = Waits
 verdict_of_judged w s judged.Links = judge_limit w s
 
--- how a block contradicts the history, where it does
-abbrev pub clash_of : Slip → Option (ConflictKind × Bor Slip) → Option Clash
-clash_of s None = None
-clash_of s (Some p) = Some (conflict p.0 p.1.now s)
+-- the conflict with a block of the history, where it was found
+abbrev pub clash_at : Slip → ConflictKind → Option Slip → Option Clash
+clash_at s kind None = None
+clash_at s kind (Some held) = Some (conflict kind held s)
+
+-- how a block contradicts the block at a place, where it does
+abbrev pub clash_of : List Slip → Slip → Option (ConflictKind × ℕ) → Option Clash
+clash_of newest s None = None
+clash_of newest s (Some p) = clash_at s p.0 (slip_at newest p.1)
 
 -- the world has this history, and these blocks wait in it
 pub record HasParts (w : World) (db : Forks) (room : Room) : Type 0 where

@@ -1,12 +1,12 @@
 //! Which rule decides an offer.
 
-ghost use Rattle.std.specs.Prelude.{◌≡◌, ◌<◌, ◌++◌, length, None, Some, false};
+ghost use Rattle.std.specs.Prelude.{◌≡◌, ◌<◌, ◌++◌, length, IfSome, None, Some, false};
 ghost use Rattle.std.specs.Option.{option_copied};
 ghost use Rattle.block_record.specs.Slips.{slip as slip_of_block, same_slip};
 ghost use Rattle.chain_model.specs.Ancestry.{find_id, has_id};
 ghost use Rattle.chain_model.specs.Finality.{final_tip, root_num};
 ghost use Rattle.relay_model.specs.Offers.{clash, judge_clash, judge_held, judge_linked as judge_linked_in, judge_parent, tip_num};
-ghost use Rattle.block_tree.specs.Places.{place_of};
+ghost use Rattle.block_tree.specs.Places.{place_of, slip_at};
 ghost use Rattle.relay_model.specs.Worlds.{World};
 ghost use Rattle.block_relay.specs.Judged.{HasParts, clash_of, verdict_of_judged};
 
@@ -58,38 +58,36 @@ fn tip_number(db: &ForkDb) -> u64
     if db.len() == 0 {
         return 0;
     }
-    tip_slip(db).num
+    db.slip(tip_place(db)).num
 }
 
-/// How a block contradicts the history, which has its parent at a place and not itself.
-pub fn clash_with<'a>(
-    db: &'a ForkDb,
-    parent: usize,
-    block: &Block,
-) -> Option<(ConflictKind, &'a Slip)>
+/// How a block contradicts the history, which has its parent at a place and not itself, and with
+/// which block.
+pub fn clash_with(db: &ForkDb, parent: usize, block: &Block) -> Option<(ConflictKind, usize)>
     requires fresh { has_id db.now.history block.now.id ≡ false }
     requires parent { place_of db.now.history block.now.parent_id ≡ Some parent }
     requires rises { block.now.parent_num < block.now.num }
-    ensures { clash_of (slip_of_block block.now) result
+    ensures clash { clash_of db.now.history (slip_of_block block.now) result
         ≡ clash db.now.history (slip_of_block block.now) }
+    ensures range { IfSome result (λ p. p.1 < length db.now.history) }
 {
-    let held = db.slip(parent);
-    if held.num != block.parent_num {
-        return Some((ConflictKind::Parent, held));
+    if db.slip(parent).num != block.parent_num {
+        return Some((ConflictKind::Parent, parent));
     }
     match db.can_append(block) {
-        Verdict::Disagrees => Some((ConflictKind::Finality, tip_slip(db))),
+        Verdict::Disagrees => Some((ConflictKind::Finality, tip_place(db))),
         _ => None,
     }
 }
 
-/// The final tip of a history that has blocks.
-fn tip_slip(db: &ForkDb) -> &Slip
+/// The place of the final tip of a history that has blocks.
+fn tip_place(db: &ForkDb) -> usize
     requires { 0 < length db.now.history }
-    ensures { final_tip db.now.history ≡ Some result.now }
+    ensures tip { slip_at db.now.history result ≡ final_tip db.now.history }
+    ensures range { result < length db.now.history }
 {
     let _ = db.len();
-    db.slip(db.final_tip().unwrap())
+    db.final_tip().unwrap()
 }
 
 /// The rule for a block whose parent is not held.
@@ -118,7 +116,7 @@ fn judge_child<'a>(db: &'a ForkDb, parent: usize, block: &Block) -> Judged<'a>
         ≡ judge_clash w (slip_of_block block.now) (clash w.history (slip_of_block block.now)) }
 {
     match clash_with(db, parent, block) {
-        Some((kind, held)) => Judged::Clashes(kind, held),
+        Some((kind, held)) => Judged::Clashes(kind, db.slip(held)),
         None => Judged::Links,
     }
 }

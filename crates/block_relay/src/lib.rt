@@ -6,6 +6,7 @@ mod judged;
 mod limits;
 mod marks;
 mod relay;
+mod taking;
 
 pub use answers::{KindFault, LookFault, OfferFault, Offered, Position};
 pub use limits::Limits;
