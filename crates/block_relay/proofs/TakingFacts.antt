@@ -1,5 +1,5 @@
 -- The waiting blocks as they are taken: what was dropped, as the history grows, and what may be taken next.
-use Rattle.std.proofs.Common.{arith, ◌≡◌, ◌<◌, ◌≤◌, ◌+◌, List, [], ◌∷◌, ◌++◌, length, reverse, Option, Some, None, refl, sym, ◌∙◌, ap, ℕ, Bool, false, is_some, filter}
+use Rattle.std.proofs.Common.{arith, ◌≡◌, ◌<◌, ◌≤◌, ◌+◌, List, [], ◌∷◌, ◌++◌, length, reverse, Option, Some, None, refl, sym, ◌∙◌, ap, ℕ, Bool, true, false, is_some, filter, inl, inr, subst}
 use Rattle.std.specs.List.{AllByRecursion}
 use Rattle.std.proofs.lemmas.List.{reverse-append}
 use Rattle.block_record.specs.declared.blocks.Slip.{Slip}
@@ -7,11 +7,19 @@ use Rattle.block_tree.specs.Places.{slip_at}
 use Rattle.block_tree.proofs.PlaceFacts.{slip_at_past}
 use Rattle.relay_model.specs.declared.answers.Conflict.{Conflict as Clash}
 use Rattle.block_relay.specs.declared.taking.Dropped.{Dropped}
-use Rattle.relay_model.specs.Worlds.{descends, next_waiting, without}
+use Rattle.relay_model.specs.Worlds.{descendants, descends, next_waiting, without}
 use Rattle.relay_model.specs.Offers.{Intake, clash, take_judged, take_one}
+use Rattle.chain_model.specs.Ancestry.{has_id}
+use Rattle.chain_model.specs.Finality.{root_num}
+use Rattle.fork_db.specs.Forks.{Forks}
+use Rattle.fork_db.specs.Verdicts.{verdict_of, fits}
+use Rattle.wait_room.specs.Rooms.{Room}
+use Rattle.relay_model.proofs.Judged.{IsTaker, judged_takes}
+use Rattle.relay_model.proofs.Sound.{first_intake, new_parts, rises_above, starts}
+use Rattle.block_relay.proofs.JudgedFacts.{fits_child}
 use Rattle.relay_model.proofs.Intakes.{keeps_one, next_is}
-use Rattle.block_relay.specs.Taking.{AreWithin, CanTake, clash_with, clashes_seen, dropped_after, history_after}
-use Rattle.block_relay.proofs.CountFacts.{counts_one, next_counts}
+use Rattle.block_relay.specs.Taking.{AreWithin, CanStart, CanTake, clash_with, clashes_seen, dropped_after, history_after}
+use Rattle.block_relay.proofs.CountFacts.{counts_first, counts_one, next_counts}
 
 abbrev pub intake_by : List Slip → List Slip → List Clash → Intake
 intake_by h w ds = record { history = h; waiting = w; dropped = ds }
@@ -53,3 +61,31 @@ next_can d x room left can e le =
 pub none_from : (o : Option Slip) → is_some o ≡ false → o ≡ None
 none_from None e = refl
 none_from (Some x) e = absurd (grind (arith, e))
+
+-- a block that a sound world admits may come next in its history
+pub start_fits : (db : Forks) (room : Room) (s : Slip) → CanStart db room s → verdict_of db.history s ≡ fits
+start_fits db room s can =
+    let is = judged_takes can.world s can.takes in
+    let new = (new_parts can.world s is.new).1 in
+    subst (λ l. verdict_of l s ≡ fits) can.parts.history (by is.links new)
+  where
+    first : (l : List Slip) → l ≡ [] → verdict_of l s ≡ fits
+    first [] e = refl
+    first (t ∷ older) e = absurd (grind (arith, e))
+    by : IsTaker can.world s → has_id can.world.history s.id ≡ false → verdict_of can.world.history s ≡ fits
+    by (inl empty) new = first can.world.history empty
+    by (inr link) new = fits_child can.world.history s link.0 link.1.parent link.1.fits new (rises_above s (root_num can.world.history) can.block link.1.above)
+
+-- and what waits may be taken after it
+pub start_can : (db : Forks) (room : Room) (s : Slip) (left : ℕ) → CanStart db room s → descendants room.waiting s.id ≤ left → CanTake (intake_by (s ∷ db.history) room.waiting []) left
+start_can db room s left can le =
+    let is = judged_takes can.world s can.takes in
+    let d = first_intake can.world s in
+    let same : intake_by (s ∷ db.history) room.waiting [] ≡ d = rw (can.parts.history, can.parts.waiting) refl in
+    subst (λ (e : Intake). CanTake e left) (sym same) record {
+      world = can.world;
+      first = s;
+      counted = counts_first can.world s can.sound;
+      taking = starts can.world s can.sound can.block is;
+      enough = omega (arith, le, ap (λ l. descendants l s.id) can.parts.waiting);
+    }

@@ -7,11 +7,12 @@ use Rattle.block_tree.specs.Places.{slip_at}
 use Rattle.relay_model.specs.declared.answers.Conflict.{Conflict as Clash}
 use Rattle.relay_model.specs.declared.answers.ConflictKind.{ConflictKind}
 use Rattle.relay_model.specs.Worlds.{World, descendants, descends}
-use Rattle.relay_model.specs.Offers.{Intake, conflict}
-use Rattle.relay_model.specs.Soundness.{IsDistinct}
+use Rattle.relay_model.specs.Offers.{Intake, Takes, conflict, judge, take_in}
+use Rattle.relay_model.specs.Soundness.{IsBlock, IsDistinct, IsSound}
 use Rattle.relay_model.proofs.Intakes.{IsTaking}
 use Rattle.fork_db.specs.Forks.{Forks}
 use Rattle.wait_room.specs.Rooms.{Room}
+use Rattle.block_relay.specs.Judged.{HasParts}
 use Rattle.block_relay.specs.declared.taking.Dropped.{Dropped}
 
 -- the conflict of a block with the one that was found
@@ -60,3 +61,15 @@ pub record CanTake (d : Intake) (room : ℕ) : Type 0 where
   pub counted : Counted world first d
   pub taking : IsTaking d
   pub enough : length (filter (descends (length world.waiting) world.waiting first.id) d.waiting) ≤ room
+
+-- what follows the admission of a block
+abbrev pub intake_from : List Slip → List Slip → Slip → Intake
+intake_from history waiting s = take_in (length waiting) (record { history = s ∷ history; waiting = waiting; dropped = [] })
+
+-- the block is one that a sound world with this history and these waiting blocks admits
+pub record CanStart (db : Forks) (room : Room) (s : Slip) : Type 0 where
+  pub world : World
+  pub parts : HasParts world db room
+  pub sound : IsSound world
+  pub block : IsBlock s
+  pub takes : judge world s ≡ Takes

@@ -52,7 +52,7 @@ pub fn is_slip_of(slip: &Slip, block: &Block) -> bool
 }
 
 /// The number of the final tip, and 0 where there is none.
-fn tip_number(db: &ForkDb) -> u64
+pub fn tip_number(db: &ForkDb) -> u64
     ensures { result ≡ tip_num db.now.history }
 {
     if db.len() == 0 {

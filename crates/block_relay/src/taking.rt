@@ -1,15 +1,15 @@
 //! The waiting blocks that follow an admitted block.
 
-ghost use Rattle.std.specs.Prelude.{◌≡◌, ◌<◌, ◌≤◌, ◌+◌, length, reverse, vec_len, vec_capacity, IfSome, Some, true, false};
+ghost use Rattle.std.specs.Prelude.{◌≡◌, ◌<◌, ◌≤◌, ◌+◌, [], length, reverse, vec_len, vec_capacity, IfSome, Some, true, false};
 ghost use Rattle.std.specs.Option.{is_some};
 ghost use Rattle.block_record.specs.Slips.{slip as slip_of_block};
 ghost use Rattle.chain_model.specs.Ancestry.{has_id};
 ghost use Rattle.block_tree.specs.Places.{place_of};
-ghost use Rattle.relay_model.specs.Offers.{clash, take_in, take_one};
-ghost use Rattle.relay_model.specs.Worlds.{next_waiting};
-ghost use Rattle.block_relay.specs.Taking.{AreWithin, CanTake, clashes_seen, dropped_after, history_after, intake_of};
+ghost use Rattle.relay_model.specs.Offers.{clash, purged, take_in, take_one};
+ghost use Rattle.relay_model.specs.Worlds.{descendants, next_waiting};
+ghost use Rattle.block_relay.specs.Taking.{AreWithin, CanStart, CanTake, clashes_seen, dropped_after, history_after, intake_from, intake_of};
 
-use crate::judged::clash_with;
+use crate::judged::{clash_with, tip_number};
 use block_record::{Block, Id, Slip};
 use fork_db::ForkDb;
 use relay_model::ConflictKind;
@@ -34,6 +34,33 @@ impl Holds for History<'_> {
     fn holds(&self, id: &Id) -> bool {
         self.0.find(id).is_some()
     }
+}
+
+/// Admits a block and the waiting blocks that follow it, and lets those go whose numbers are at most
+/// the final tip's. It takes no memory.
+pub fn admit(
+    db: &mut ForkDb,
+    room: &mut WaitRoom,
+    dropped: &mut Vec<Dropped>,
+    slip: Slip,
+    block: Arc<Block>,
+)
+    requires own { slip ≡ slip_of_block block.value }
+    requires can { CanStart db.old room.old slip }
+    requires room { 1 + descendants room.old.waiting slip.id ≤ db.old.room }
+    requires empty { dropped.old.items ≡ [] }
+    requires capacity { length room.old.waiting ≤ vec_capacity dropped.old }
+    ensures history { db.new.history
+        ≡ (intake_from db.old.history room.old.waiting slip).history }
+    ensures waiting { room.new.waiting ≡ purged db.new.history
+        (intake_from db.old.history room.old.waiting slip).waiting }
+    ensures dropped { clashes_seen db.new.history (reverse dropped.new.items)
+        ≡ (intake_from db.old.history room.old.waiting slip).dropped }
+    ensures within { AreWithin db.new.history (reverse dropped.new.items) }
+{
+    let _ = db.append(slip, block);
+    take_waiting(db, room, dropped);
+    room.drop_through(tip_number(db));
 }
 
 /// Takes the waiting blocks whose parents have come, one by one, the least number first. Each is
