@@ -28,6 +28,7 @@ any_implied f g imp j (x ∷ xs) h =
     both : (a b c : Bool) → (a && b) ≡ true → (b ≡ true → c ≡ true) → (a && c) ≡ true
     both true b c h imp = imp h
     both false b c h imp = h
+
     last : (a : Bool) → (a || true) ≡ true
     last true = refl
     last false = refl
@@ -86,6 +87,7 @@ filter_fewer f g (x ∷ xs) =
     kept : (b : Bool) → length (filter f (filter g xs)) ≤ length (filter f xs) → length (cond b (x ∷ filter f (filter g xs)) (filter f (filter g xs))) ≤ length (cond b (x ∷ filter f xs) (filter f xs))
     kept true h = omega (arith, h)
     kept false h = h
+
     dropped : (b : Bool) → length (filter f (filter g xs)) ≤ length (filter f xs) → length (filter f (filter g xs)) ≤ length (cond b (x ∷ filter f xs) (filter f xs))
     dropped true h = omega (arith, h)
     dropped false h = h

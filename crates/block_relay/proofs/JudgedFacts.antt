@@ -106,6 +106,7 @@ late_root w s h e some low =
   where
     below : (a b : ℕ) → a ≤ b → nat_le a b ≡ true
     below a b le = grind arith
+
     by : (l : List Slip) → w.history ≡ l → 0 < length l → s.num ≤ root_num l → Late ≡ judge_linked w s l
     by [] is lt low = absurd (omega arith)
     by (t ∷ older) is lt low = sym (ap (λ b. cond b Late (judge_parent w s (find_id w.history s.parent_id))) (below s.num (root_num w.history) (subst (λ l. s.num ≤ root_num l) (sym is) low)))
@@ -117,6 +118,7 @@ above_root w s h e some high =
   where
     over : (a b : ℕ) → b < a → nat_le a b ≡ false
     over a b lt = grind arith
+
     by : (l : List Slip) → w.history ≡ l → 0 < length l → root_num l < s.num → judge_parent w s (find_id w.history s.parent_id) ≡ judge_linked w s l
     by [] is lt high = absurd (omega arith)
     by (t ∷ older) is lt high = sym (ap (λ b. cond b Late (judge_parent w s (find_id w.history s.parent_id))) (over s.num (root_num w.history) (subst (λ l. root_num l < s.num) (sym is) high)))
@@ -128,6 +130,7 @@ agrees_from newest s e = by (final_tip newest) e
     yes : (t : Slip) (b : Bool) → cond b None (Some (conflict kind.Finality t s)) ≡ None → b ≡ true
     yes t true e = refl
     yes t false e = absurd (grind (arith, e))
+
     by : (o : Option Slip) → finality_clash newest s o ≡ None → agrees_with (s ∷ newest) o (claim (s ∷ newest) s) ≡ true
     by None e = refl
     by (Some t) e = same_test (s ∷ newest) t (claim (s ∷ newest) s) ∙ yes t (claim_agrees (s ∷ newest) (claim (s ∷ newest) s) (Some t)) e

@@ -72,6 +72,7 @@ start_fits db room s can =
     first : (l : List Slip) → l ≡ [] → verdict_of l s ≡ fits
     first [] e = refl
     first (t ∷ older) e = absurd (grind (arith, e))
+
     by : IsTaker can.world s → has_id can.world.history s.id ≡ false → verdict_of can.world.history s ≡ fits
     by (inl empty) new = first can.world.history empty
     by (inr link) new = fits_child can.world.history s link.0 link.1.parent link.1.fits new (rises_above s (root_num can.world.history) can.block link.1.above)

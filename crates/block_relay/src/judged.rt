@@ -154,12 +154,7 @@ fn held_slip<'a>(db: &'a ForkDb, room: &'a WaitRoom, id: &Id) -> Option<&'a Slip
 }
 
 /// The rule that decides an offer, in a relay that is open.
-pub fn judge_open<'a>(
-    first: u64,
-    db: &'a ForkDb,
-    room: &'a WaitRoom,
-    block: &Block,
-) -> Judged<'a>
+pub fn judge_open<'a>(first: u64, db: &'a ForkDb, room: &'a WaitRoom, block: &Block) -> Judged<'a>
     ensures { (w : World) → HasParts w db.now room.now → w.first ≡ first
         → verdict_of_judged w (slip_of_block block.now) result
         ≡ judge_held w (slip_of_block block.now)

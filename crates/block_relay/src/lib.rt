@@ -7,6 +7,8 @@ mod limits;
 mod marks;
 mod relay;
 mod taking;
+#[cfg(test)]
+mod tests;
 
 pub use answers::{KindFault, LookFault, OfferFault, Offered, Position};
 pub use limits::Limits;
