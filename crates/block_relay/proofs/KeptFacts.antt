@@ -1,0 +1,160 @@
+-- What a relay keeps as it takes one more thing.
+use Rattle.std.proofs.Common.{arith, cond, length, leb, ltb, inl, inr, None, Some, IsTrue, ◌≡◌, ◌++◌, ℕ, Bool, true, false, List, [], ◌∷◌, Option, reverse, refl, sym, ◌∙◌, ap, subst}
+use Rattle.std.proofs.lemmas.List.{reverse-append}
+use Rattle.std.proofs.lemmas.Bool.{cases_Bool, lt-ltb}
+use Rattle.block_record.specs.declared.blocks.Block.{Block}
+use Rattle.block_record.specs.declared.blocks.Slip.{Slip}
+use Rattle.block_record.specs.declared.blocks.Kind.{Kind as NodeKind}
+use Rattle.relay_model.specs.declared.answers.Conflict.{Conflict as Clash}
+use Rattle.relay_model.specs.Worlds.{World, has_room}
+use Rattle.relay_model.specs.Chronicles.{Entry, Admitted, Closed, Kind, Stored, Waited, still_waits}
+use Rattle.relay_model.specs.Soundness.{IsBlock, IsSound}
+use Rattle.relay_model.specs.Offers.{Waits, clash, judge, judge_clash, judge_held, judge_linked, judge_parent, tip_num, world_by}
+use Rattle.relay_model.proofs.Judged.{judged_waits, limit_takes}
+use Rattle.relay_model.proofs.Sound.{keeps_by, new_parts, none_found}
+use Rattle.chain_model.specs.Ancestry.{find_id, has_id}
+use Rattle.chain_model.specs.Finality.{root_num}
+use Rattle.fork_db.specs.Forks.{Forks}
+use Rattle.wait_room.specs.Rooms.{Room, fits_in, with_block}
+use Rattle.block_relay.specs.declared.marks.Mark.{Mark}
+use Rattle.block_relay.specs.declared.marks.Mark.TheVariants as mark
+use Rattle.block_relay.specs.Chronicle.{IsKept, Told, entries_by, has_kind_mark, world_told}
+use Rattle.block_relay.specs.Judged.{HasParts}
+
+abbrev pub told : List Entry → List Clash → Told
+told es cs = record { entries = es; conflicts = cs }
+
+pub marks_push : (ms : List Mark) (m : Mark) → reverse (ms ++ m ∷ []) ≡ m ∷ reverse ms
+marks_push ms m = reverse-append ms (m ∷ [])
+
+-- soundness speaks of the history and of the waiting blocks alone
+pub same_parts : (w v : World) → w.history ≡ v.history → w.waiting ≡ v.waiting → IsSound w → IsSound v
+same_parts w v h r sound = record {
+  history = rw (← h) sound.history;
+  agreed = rw (← h) sound.agreed;
+  distinct = rw (← r) sound.distinct;
+  apart = rw (← h, ← r) sound.apart;
+  orphans = rw (← h, ← r) sound.orphans;
+  above = rw (← h, ← r) sound.above;
+  rises = rw (← r) sound.rises;
+}
+
+-- the relay is closed
+pub closes : (es : List Entry) (cs : List Clash) (db : Forks) (room : Room) (kept : Option NodeKind) (shut : Bool) (first run : ℕ) → IsKept (world_told (told es cs)) db room kept shut first run
+    → IsKept (world_told (told (Closed ∷ es) cs)) db room kept true first run
+closes es cs db room kept shut first run k = record {
+  parts = record { history = k.parts.history; waiting = k.parts.waiting; wait_blocks = k.parts.wait_blocks; wait_bytes = k.parts.wait_bytes };
+  kind = k.kind;
+  closed = refl;
+  first_is = k.first_is;
+  run_is = k.run_is;
+  limit = k.limit;
+  sound = same_parts (world_told (told es cs)) (world_told (told (Closed ∷ es) cs)) refl refl k.sound;
+}
+
+-- a conflict is noted
+pub notes : (es : List Entry) (cs : List Clash) (c : Clash) (db : Forks) (room : Room) (kept : Option NodeKind) (shut : Bool) (first run : ℕ) → IsKept (world_told (told es cs)) db room kept shut first run
+    → IsKept (world_told (told es (c ∷ cs))) db room kept shut first run
+notes es cs c db room kept shut first run k = record {
+  parts = record { history = k.parts.history; waiting = k.parts.waiting; wait_blocks = k.parts.wait_blocks; wait_bytes = k.parts.wait_bytes };
+  kind = k.kind;
+  closed = k.closed;
+  first_is = k.first_is;
+  run_is = k.run_is;
+  limit = k.limit;
+  sound = same_parts (world_told (told es cs)) (world_told (told es (c ∷ cs))) refl refl k.sound;
+}
+
+-- a block that has to wait has room
+clash_waits : (w : World) (s : Slip) (o : Option Clash) → judge_clash w s o ≡ Waits → ⊥
+clash_waits w s None e = limit_takes w s e
+clash_waits w s (Some c) e = absurd (grind (arith, e))
+
+room_waits : (w : World) (s : Slip) (o : Option Slip) → judge_parent w s o ≡ Waits → has_room w.limits w.waiting s ≡ true
+room_waits w s (Some p) e = absurd (clash_waits w s (clash w.history s) e)
+room_waits w s None e =
+    elim (cases_Bool (leb s.num (tip_num w.history))) [
+      | inl low ↦ absurd (grind (arith, e, low))
+      | inr high ↦ elim (cases_Bool (has_room w.limits w.waiting s)) [
+        | inl room ↦ room
+        | inr full ↦ absurd (grind (arith, e, high, full))
+      ]
+    ]
+
+linked_room : (w : World) (s : Slip) (h : List Slip) → judge_linked w s h ≡ Waits → has_room w.limits w.waiting s ≡ true
+linked_room w s [] e = absurd (limit_takes w s e)
+linked_room w s (t ∷ older) e =
+    elim (cases_Bool (leb s.num (root_num w.history))) [
+      | inl low ↦ absurd (grind (arith, e, low))
+      | inr high ↦ room_waits w s (find_id w.history s.parent_id) (rw high at e)
+    ]
+
+held_room : (w : World) (s : Slip) (o : Option Slip) → judge_held w s o ≡ Waits → has_room w.limits w.waiting s ≡ true
+held_room w s (Some h) e = absurd (grind (arith, e))
+held_room w s None e =
+    elim (cases_Bool (ltb s.num w.first)) [
+      | inl low ↦ absurd (grind (arith, e, low))
+      | inr high ↦ linked_room w s w.history (rw high at e)
+    ]
+
+pub judged_room : (w : World) (s : Slip) → judge w s ≡ Waits → has_room w.limits w.waiting s ≡ true
+judged_room w s e =
+    elim (cases_Bool w.closed) [
+      | inl shut ↦ absurd (grind (arith, e, shut))
+      | inr open' ↦ held_room w s (find_id (w.waiting ++ w.history) s.id) (rw open' at e)
+    ]
+
+-- the room of the relay has room for it, and not its id
+pub fits_room : (w : World) (s : Slip) (db : Forks) (room : Room) → HasParts w db room → judge w s ≡ Waits → IsTrue (fits_in room s.length)
+fits_room w s db room parts e =
+    let has : has_room w.limits w.waiting s ≡ true = judged_room w s e in
+    rw (← parts.waiting, ← parts.wait_blocks, ← parts.wait_bytes) has
+
+pub lacks_room : (w : World) (s : Slip) (db : Forks) (room : Room) → HasParts w db room → judge w s ≡ Waits → has_id room.waiting s.id ≡ false
+lacks_room w s db room parts e = rw (← parts.waiting) (new_parts w s (judged_waits w s e).new).0
+
+-- a block waits
+pub waits : (es : List Entry) (cs : List Clash) (db : Forks) (room : Room) (kept : Option NodeKind) (shut : Bool) (first run : ℕ) (s : Slip) (b : Block) → IsKept (world_told (told es cs)) db room kept shut first run
+    → judge (world_told (told es cs)) s ≡ Waits → IsBlock s → IsKept (world_told (told (Waited s ∷ es) cs)) db (with_block room s b) kept shut first run
+waits es cs db room kept shut first run s b k e block =
+    let w = world_told (told es cs) in
+    let v = world_told (told (Waited s ∷ es) cs) in
+    let is = judged_waits w s e in
+    let test : still_waits w.history s ≡ true = rw (none_found w.history s.parent_id is.orphan, lt-ltb (tip_num w.history) s.num is.above) refl in
+    let more : v.waiting ≡ s ∷ w.waiting = ap (λ b. cond b (s ∷ w.waiting) w.waiting) test in
+    record {
+      parts = record { history = k.parts.history; waiting = more ∙ ap (λ l. s ∷ l) k.parts.waiting; wait_blocks = k.parts.wait_blocks; wait_bytes = k.parts.wait_bytes };
+      kind = k.kind;
+      closed = k.closed;
+      first_is = k.first_is;
+      run_is = k.run_is;
+      limit = k.limit;
+      sound = same_parts (world_by w s Waits) v refl (sym more) (keeps_by w s k.sound block Waits e);
+    }
+
+pub slips_push : (xs : List Slip) (s : Slip) → reverse (xs ++ s ∷ []) ≡ s ∷ reverse xs
+slips_push xs s = reverse-append xs (s ∷ [])
+
+-- without a mark of the kind the entries do not speak of it
+pub other_kind : (opening : Entry) (k j : Option NodeKind) (ms : List Mark) → has_kind_mark ms ≡ false → (h w : List Slip) → entries_by opening k ms h w ≡ entries_by opening j ms h w
+other_kind opening k j [] e h w = refl
+other_kind opening k j (mark.Kind ∷ ms) e h w = absurd (grind (arith, e))
+other_kind opening k j (mark.Admitted ∷ ms) e [] w = other_kind opening k j ms e [] w
+other_kind opening k j (mark.Admitted ∷ ms) e (s ∷ h) w = ap (λ l. Admitted s ∷ l) (other_kind opening k j ms e h w)
+other_kind opening k j (mark.Waited ∷ ms) e h [] = other_kind opening k j ms e h []
+other_kind opening k j (mark.Waited ∷ ms) e h (s ∷ w) = ap (λ l. Waited s ∷ l) (other_kind opening k j ms e h w)
+other_kind opening k j (mark.Stored at ∷ ms) e h w = ap (λ l. Stored at ∷ l) (other_kind opening k j ms e h w)
+other_kind opening k j (mark.Closed ∷ ms) e h w = ap (λ l. Closed ∷ l) (other_kind opening k j ms e h w)
+
+-- the first kind is kept
+pub keeps_kind : (es : List Entry) (cs : List Clash) (db : Forks) (room : Room) (kept : Option NodeKind) (shut : Bool) (first run : ℕ) (k : NodeKind) → IsKept (world_told (told es cs)) db room kept shut first run
+    → IsKept (world_told (told (Kind k ∷ es) cs)) db room (Some k) shut first run
+keeps_kind es cs db room kept shut first run k is = record {
+  parts = record { history = is.parts.history; waiting = is.parts.waiting; wait_blocks = is.parts.wait_blocks; wait_bytes = is.parts.wait_bytes };
+  kind = refl;
+  closed = is.closed;
+  first_is = is.first_is;
+  run_is = is.run_is;
+  limit = is.limit;
+  sound = same_parts (world_told (told es cs)) (world_told (told (Kind k ∷ es) cs)) refl refl is.sound;
+}

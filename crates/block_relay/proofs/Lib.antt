@@ -1,0 +1,4 @@
+pub mod JudgedFacts
+pub mod KeptFacts
+pub mod CountFacts
+pub mod TakingFacts

@@ -1,0 +1,34 @@
+use Rattle.std.proofs.Common.{arith, ◌≡◌, ◌<◌, ◌≤◌, Some, None, length, ap, sym, ◌∙◌, subst}
+use Rattle.block_record.specs.Slips.{slip}
+use Rattle.chain_model.specs.Ancestry.{find_id}
+use Rattle.chain_model.specs.Finality.{root_num}
+use Rattle.block_tree.proofs.PlaceFacts.{find_none, place_slip}
+use Rattle.relay_model.specs.Offers.{judge_parent}
+use Rattle.block_relay.proofs.JudgedFacts.{above_root, late_root, root_first}
+use Rattle.block_relay.proofs.judged.judge_linked.Goals as goal
+
+pub returns-then-block-slip : goal.returns-then-block-slip
+returns-then-block-slip c =
+    λ w parts. late_root w (slip c.args.block.now) c.args.db.now.history parts.history (omega arith)
+    (let root = root_first c.args.db.now.history c.slip.result.now c.slip.ensures in omega (arith, root))
+
+pub returns-in-Some : goal.returns-in-Some
+returns-in-Some c =
+    λ w parts.
+    let s = slip c.args.block.now in
+    let newest = c.args.db.now.history in
+    let root = root_first newest c.slip.result.now c.slip.ensures in
+    let high : root_num newest < s.num = omega (arith, root) in
+    let q = place_slip newest s.parent_id c.in-Some.parent (sym c.find.ensures ∙ c.in-Some.is) in
+    let found : find_id w.history s.parent_id ≡ Some q.0 = ap (λ l. find_id l s.parent_id) parts.history ∙ q.3 in
+    c.judge_child.ensures w parts.history ∙ ap (judge_parent w s) (sym found) ∙ above_root w s newest parts.history (omega arith) high
+
+pub returns-in-None : goal.returns-in-None
+returns-in-None c =
+    λ w parts.
+    let s = slip c.args.block.now in
+    let newest = c.args.db.now.history in
+    let root = root_first newest c.slip.result.now c.slip.ensures in
+    let high : root_num newest < s.num = omega (arith, root) in
+    let found : find_id w.history s.parent_id ≡ None = ap (λ l. find_id l s.parent_id) parts.history ∙ find_none newest s.parent_id (sym c.find.ensures ∙ c.in-None.is) in
+    c.judge_orphan.ensures w parts ∙ ap (judge_parent w s) (sym found) ∙ above_root w s newest parts.history (omega arith) high

@@ -1,0 +1,62 @@
+use Rattle.std.proofs.Common.{arith, ◌≡◌, ◌≤◌, ◌<◌, ◌+◌, Some, false, length, filter, subst, ap, sym, ◌∙◌}
+use Rattle.std.specs.Option.{option_map}
+use Rattle.block_record.specs.declared.blocks.Slip.{Slip}
+use Rattle.chain_model.specs.Ancestry.{has_id}
+use Rattle.wait_room.specs.Rooms.{Room, room_without}
+use Rattle.relay_model.specs.Worlds.{descends, next_waiting, without}
+use Rattle.relay_model.specs.Offers.{Intake, clash, take_one}
+use Rattle.relay_model.proofs.Intakes.{IsTaking, keeps_one, next_is}
+use Rattle.block_relay.specs.Taking.{CanTake, intake_of}
+use Rattle.block_relay.proofs.CountFacts.{counts_one, next_counts}
+use Rattle.block_relay.proofs.TakingFacts.{next_can, placed}
+use Rattle.block_relay.proofs.taking.take_next.Goals as goal
+
+pub place-requires-clause-fresh : goal.place-requires-clause-fresh
+place-requires-clause-fresh c =
+    let h = c.args.db.now.history in
+    let x = c.in-Some.slip in
+    let next : next_waiting h c.args.room.now.waiting ≡ Some x = sym c.take_next.ensures.next ∙ ap (option_map (λ p. p.0)) c.in-Some.is in
+    (next_is h c.args.room.now.waiting x next).has (λ z. has_id h z.id ≡ false) c.requires.can.taking.apart
+
+pub place-requires-clause-parent : goal.place-requires-clause-parent
+place-requires-clause-parent c =
+    let h = c.args.db.now.history in
+    let x = c.in-Some.slip in
+    let next : next_waiting h c.args.room.now.waiting ≡ Some x = sym c.take_next.ensures.next ∙ ap (option_map (λ p. p.0)) c.in-Some.is in
+    (next_is h c.args.room.now.waiting x next).parent
+
+pub place-requires-clause-rises : goal.place-requires-clause-rises
+place-requires-clause-rises c =
+    let h = c.args.db.now.history in
+    let x = c.in-Some.slip in
+    let next : next_waiting h c.args.room.now.waiting ≡ Some x = sym c.take_next.ensures.next ∙ ap (option_map (λ p. p.0)) c.in-Some.is in
+    (next_is h c.args.room.now.waiting x next).has (λ z. z.parent_num < z.num) c.requires.can.taking.rises
+
+pub place-requires-clause-room : goal.place-requires-clause-room
+place-requires-clause-room c =
+    let h = c.args.db.now.history in
+    let x = c.in-Some.slip in
+    let can = c.requires.can in
+    let next : next_waiting h c.args.room.now.waiting ≡ Some x = sym c.take_next.ensures.next ∙ ap (option_map (λ p. p.0)) c.in-Some.is in
+    let k = next_counts can.world can.first _ can.counted x (next_is h c.args.room.now.waiting x next) in
+    omega (arith, k.fewer, can.enough)
+
+pub returns-in-Some-clause-can : goal.returns-in-Some-clause-can
+returns-in-Some-clause-can c =
+    let h = c.args.db.now.history in
+    let x = c.in-Some.slip in
+    let d = intake_of c.args.db.now c.args.room.now c.args.dropped.now.items in
+    let next : next_waiting h c.args.room.now.waiting ≡ Some x = sym c.take_next.ensures.next ∙ ap (option_map (λ p. p.0)) c.in-Some.is in
+    let left : c.take_next.new.self.waiting ≡ without x c.args.room.now.waiting = ap (λ (r : Room). r.waiting) (c.take_next.ensures.room ∙ ap (room_without c.args.room.now) next) in
+    let after : intake_of c.place.new.db c.take_next.new.self c.place.new.dropped.items ≡ take_one d (Some x) = placed d x (clash h x) _ _ _ c.place.ensures.history left c.place.ensures.dropped in
+    subst (λ (e : Intake). CanTake e c.place.new.db.room) (sym after) (next_can d x c.args.db.now.room c.place.new.db.room c.requires.can next c.place.ensures.room)
+
+pub returns-in-Some-clause-capacity : goal.returns-in-Some-clause-capacity
+returns-in-Some-clause-capacity c =
+    let h = c.args.db.now.history in
+    let x = c.in-Some.slip in
+    let can = c.requires.can in
+    let next : next_waiting h c.args.room.now.waiting ≡ Some x = sym c.take_next.ensures.next ∙ ap (option_map (λ p. p.0)) c.in-Some.is in
+    let k = next_counts can.world can.first _ can.counted x (next_is h c.args.room.now.waiting x next) in
+    let left = ap (λ (r : Room). length r.waiting) (c.take_next.ensures.room ∙ ap (room_without c.args.room.now) next) in
+    omega (arith, k.shorter, left, c.requires.capacity, c.place.ensures.len, c.place.ensures.capacity)

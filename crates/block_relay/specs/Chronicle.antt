@@ -1,0 +1,81 @@
+-- What callers see of a relay, and what it keeps of it.
+use Rattle.std.specs.Prelude.{ℕ, ◌≡◌, Bool, true, false, List, [], ◌∷◌, ◌++◌, Option, None, Some, reverse}
+use Rattle.std.specs.Str.{bytes_eq}
+use Rattle.block_record.specs.declared.blocks.Slip.{Slip}
+use Rattle.block_record.specs.declared.blocks.Kind.{Kind as NodeKind}
+use Rattle.relay_model.specs.declared.answers.Conflict.{Conflict as Clash}
+use Rattle.relay_model.specs.Worlds.{World, Limits}
+use Rattle.relay_model.specs.Chronicles.{Entry, Opened, Kind, Admitted, Waited, Stored, Closed, world_of}
+use Rattle.relay_model.specs.Soundness.{IsSound}
+use Rattle.fork_db.specs.Forks.{Forks}
+use Rattle.wait_room.specs.Rooms.{Room}
+use Rattle.block_relay.specs.declared.limits.Limits.{Limits as PlantLimits}
+use Rattle.block_relay.specs.declared.marks.Mark.{Mark}
+use Rattle.block_relay.specs.declared.marks.Mark.TheVariants as mark
+use Rattle.block_relay.specs.Judged.{HasParts}
+
+-- the entries of the chronicle, and all conflicts that were noted, both with what came last first
+pub record Told : Type 0 where
+  pub entries : List Entry
+  pub conflicts : List Clash
+
+-- the world that a relay stands for
+abbrev pub world_told : Told → World
+world_told t = record (world_of t.entries) { conflicts = t.conflicts }
+
+-- the limits that rule a relay
+abbrev pub limits_told : PlantLimits → Limits
+limits_told l = record { history = l.history; wait_blocks = l.wait_blocks; wait_bytes = l.wait_bytes }
+
+-- the entry of the kind, where it is kept
+abbrev pub kind_entry : Option NodeKind → List Entry
+kind_entry None = []
+kind_entry (Some k) = Kind k ∷ []
+
+-- an entry with the newest slip that is left, and the entries before it with the others
+abbrev pub with_newest : (Slip → Entry) → (List Slip → List Entry) → List Slip → List Entry
+with_newest entry before [] = before []
+with_newest entry before (s ∷ older) = entry s ∷ before older
+
+-- the entries that the marks stand for, the newest first, with the kept kind, the history and the blocks that were answered `Waiting`
+abbrev pub entries_by : Entry → Option NodeKind → List Mark → List Slip → List Slip → List Entry
+entries_by opening k [] history waited = opening ∷ []
+entries_by opening k (mark.Kind ∷ ms) history waited = kind_entry k ++ entries_by opening k ms history waited
+entries_by opening k (mark.Admitted ∷ ms) history waited = with_newest Admitted (λ older. entries_by opening k ms older waited) history
+entries_by opening k (mark.Waited ∷ ms) history waited = with_newest Waited (λ older. entries_by opening k ms history older) waited
+entries_by opening k (mark.Stored at ∷ ms) history waited = Stored at ∷ entries_by opening k ms history waited
+entries_by opening k (mark.Closed ∷ ms) history waited = Closed ∷ entries_by opening k ms history waited
+
+-- what a relay keeps beside its entries is what they stand for, and their world is sound
+pub record IsKept (w : World) (db : Forks) (room : Room) (kept : Option NodeKind) (shut : Bool) (first run : ℕ) : Type 0 where
+  pub parts : HasParts w db room
+  pub kind : w.kind ≡ kept
+  pub closed : w.closed ≡ shut
+  pub first_is : w.first ≡ first
+  pub run_is : w.run ≡ run
+  pub limit : w.limits.history ≡ db.limit
+  pub sound : IsSound w
+
+-- the entries after the relay is closed: a second time adds nothing
+abbrev pub closed_entries : Bool → List Entry → List Entry
+closed_entries true es = es
+closed_entries false es = Closed ∷ es
+
+-- whether a mark of the kind is among them
+abbrev pub has_kind_mark : List Mark → Bool
+has_kind_mark [] = false
+has_kind_mark (mark.Kind ∷ ms) = true
+has_kind_mark (mark.Admitted ∷ ms) = has_kind_mark ms
+has_kind_mark (mark.Waited ∷ ms) = has_kind_mark ms
+has_kind_mark (mark.Stored at ∷ ms) = has_kind_mark ms
+has_kind_mark (mark.Closed ∷ ms) = has_kind_mark ms
+
+-- whether nodes of a kind may feed a relay that keeps another: they have blocks of one type
+abbrev pub may_greet : Option NodeKind → NodeKind → Bool
+may_greet None k = true
+may_greet (Some held) k = bytes_eq held.block_type k.block_type
+
+-- the entries after nodes of a kind said so: the first kind is kept
+abbrev pub greeted : Option NodeKind → NodeKind → List Entry → List Entry
+greeted None k es = Kind k ∷ es
+greeted (Some held) k es = es

@@ -1,0 +1,40 @@
+-- The rule that decides an offer, as the code tells it.
+use Rattle.std.specs.Prelude.{ℕ, ◌≡◌, Bool, List, ◌++◌, Option, None, Some}
+use Rattle.block_tree.specs.Places.{slip_at}
+use Rattle.block_record.specs.declared.blocks.Slip.{Slip}
+use Rattle.relay_model.specs.declared.answers.Conflict.{Conflict as Clash}
+use Rattle.relay_model.specs.declared.answers.ConflictKind.{ConflictKind}
+use Rattle.relay_model.specs.Worlds.{World, Limits}
+use Rattle.relay_model.specs.Offers.{Verdict, Shut, Repeats, Clashes, TooEarly, Late, NoRoom, Waits, conflict, judge_limit}
+use Rattle.fork_db.specs.Forks.{Forks}
+use Rattle.wait_room.specs.Rooms.{Room}
+use Rattle.block_relay.specs.declared.judged.Judged.{Judged}
+use Rattle.block_relay.specs.declared.judged.Judged.TheVariants as judged
+
+-- the verdict on an offered block that the code's answer stands for: of a block that links, the limit of the history decides
+abbrev pub verdict_of_judged : World → Slip → Judged → Verdict
+verdict_of_judged w s judged.Shut = Shut
+verdict_of_judged w s judged.Repeats = Repeats
+verdict_of_judged w s (judged.Clashes kind held) = Clashes (conflict kind held.now s)
+verdict_of_judged w s judged.TooEarly = TooEarly
+verdict_of_judged w s judged.Late = Late
+verdict_of_judged w s judged.NoRoom = NoRoom
+verdict_of_judged w s judged.Waits = Waits
+verdict_of_judged w s judged.Links = judge_limit w s
+
+-- the conflict with a block of the history, where it was found
+abbrev pub clash_at : Slip → ConflictKind → Option Slip → Option Clash
+clash_at s kind None = None
+clash_at s kind (Some held) = Some (conflict kind held s)
+
+-- how a block contradicts the block at a place, where it does
+abbrev pub clash_of : List Slip → Slip → Option (ConflictKind × ℕ) → Option Clash
+clash_of newest s None = None
+clash_of newest s (Some p) = clash_at s p.0 (slip_at newest p.1)
+
+-- the world has this history, and these blocks wait in it
+pub record HasParts (w : World) (db : Forks) (room : Room) : Type 0 where
+  pub history : w.history ≡ db.history
+  pub waiting : w.waiting ≡ room.waiting
+  pub wait_blocks : w.limits.wait_blocks ≡ room.most_blocks
+  pub wait_bytes : w.limits.wait_bytes ≡ room.most_bytes

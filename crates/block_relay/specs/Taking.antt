@@ -1,0 +1,75 @@
+-- The waiting blocks that follow an admitted block, as they are taken one by one.
+use Rattle.std.specs.Prelude.{ℕ, ◌≡◌, ◌+◌, ◌≤◌, ◌<◌, Bool, true, false, List, [], ◌∷◌, ◌++◌, length, reverse, filter, Option, None, Some}
+use Rattle.std.specs.List.{AllByRecursion}
+use Rattle.block_record.specs.declared.blocks.Slip.{Slip}
+use Rattle.chain_model.specs.Ancestry.{find_id, has_id}
+use Rattle.block_tree.specs.Places.{slip_at}
+use Rattle.relay_model.specs.declared.answers.Conflict.{Conflict as Clash}
+use Rattle.relay_model.specs.declared.answers.ConflictKind.{ConflictKind}
+use Rattle.relay_model.specs.Worlds.{World, descendants, descends}
+use Rattle.relay_model.specs.Offers.{Intake, Takes, conflict, judge, take_in}
+use Rattle.relay_model.specs.Soundness.{IsBlock, IsDistinct, IsSound}
+use Rattle.relay_model.proofs.Intakes.{IsTaking}
+use Rattle.fork_db.specs.Forks.{Forks}
+use Rattle.wait_room.specs.Rooms.{Room}
+use Rattle.block_relay.specs.Judged.{HasParts}
+use Rattle.block_relay.specs.declared.taking.Dropped.{Dropped}
+
+-- the conflict of a block with the one that was found
+abbrev pub clash_with : ConflictKind → Slip → Option Slip → List Clash
+clash_with kind offered None = []
+clash_with kind offered (Some held) = conflict kind held offered ∷ []
+
+-- the conflicts of the dropped blocks
+abbrev pub clashes_seen : List Slip → List Dropped → List Clash
+clashes_seen newest [] = []
+clashes_seen newest (x ∷ xs) = clash_with x.kind x.offered (slip_at newest x.held) ++ clashes_seen newest xs
+
+-- the conflicts name blocks of the history
+abbrev pub AreWithin : List Slip → List Dropped → Type 0
+AreWithin newest xs = AllByRecursion (λ x. x.held < length newest) xs
+
+-- how far the waiting blocks are taken
+abbrev pub intake_of : Forks → Room → List Dropped → Intake
+intake_of db room dropped = record { history = db.history; waiting = room.waiting; dropped = clashes_seen db.history (reverse dropped) }
+
+-- the history after a block whose parent is held, by how it contradicts the history
+abbrev pub history_after : List Slip → Slip → Option Clash → List Slip
+history_after newest s None = s ∷ newest
+history_after newest s (Some c) = newest
+
+-- the conflicts after it
+abbrev pub dropped_after : List Clash → Option Clash → List Clash
+dropped_after ds None = ds
+dropped_after ds (Some c) = c ∷ ds
+
+-- what holds while the waiting blocks are taken that follow an admitted block: the more blocks of the history waited and descend from it, and so does each that is taken next
+pub record Counted (w : World) (s : Slip) (d : Intake) : Type 0 where
+  pub more : List Slip
+  pub history : d.history ≡ more ++ s ∷ w.history
+  pub held : AllByRecursion (λ y. (find_id w.waiting y.id ≡ Some y) × (descends (length more) w.waiting s.id y ≡ true)) more
+  pub found : AllByRecursion (λ x. find_id w.waiting x.id ≡ Some x) d.waiting
+  pub orphans : AllByRecursion (λ x. has_id w.history x.parent_id ≡ false) d.waiting
+  pub short : length more + length d.waiting ≤ length w.waiting
+  pub distinct : IsDistinct d.waiting
+  pub count : length more + length (filter (descends (length w.waiting) w.waiting s.id) d.waiting) ≤ descendants w.waiting s.id
+
+-- the waiting blocks may be taken: what was admitted so far is sound, and so many blocks have room as descend from the first of them
+pub record CanTake (d : Intake) (room : ℕ) : Type 0 where
+  pub world : World
+  pub first : Slip
+  pub counted : Counted world first d
+  pub taking : IsTaking d
+  pub enough : length (filter (descends (length world.waiting) world.waiting first.id) d.waiting) ≤ room
+
+-- what follows the admission of a block
+abbrev pub intake_from : List Slip → List Slip → Slip → Intake
+intake_from history waiting s = take_in (length waiting) (record { history = s ∷ history; waiting = waiting; dropped = [] })
+
+-- the block is one that a sound world with this history and these waiting blocks admits
+pub record CanStart (db : Forks) (room : Room) (s : Slip) : Type 0 where
+  pub world : World
+  pub parts : HasParts world db room
+  pub sound : IsSound world
+  pub block : IsBlock s
+  pub takes : judge world s ≡ Takes

@@ -1,0 +1,106 @@
+//! What a relay answers.
+
+use block_record::{Id, TypeName};
+use chain_model::Place;
+use relay_model::Conflict;
+use std::alloc::AllocError;
+use step_cursor::MisfitField;
+
+/// What became of an offered block.
+#[derive(Debug, Drop)]
+pub enum Offered {
+    /// It is in the history, at `from`, with the waiting blocks that followed it: `count` blocks in
+    /// all. `dropped` are the waiting blocks that contradicted the history, in the order of dropping.
+    Admitted {
+        from: u64,
+        count: u64,
+        dropped: Vec<Conflict>,
+    },
+    /// The same block is held already.
+    Duplicate,
+    /// It waits for its parent.
+    Waiting,
+    /// Its number is below the first one that is taken.
+    Early,
+    /// It is not above the root, or not above the final tip and without a held parent.
+    Stale,
+}
+
+/// Why an offered block was refused.
+#[derive(Debug, Drop)]
+pub enum OfferFault {
+    /// The relay is closed, with a history of so many blocks.
+    Closed { len: u64 },
+    /// The block contradicts one that is held.
+    Conflict(Conflict),
+    /// The history has so many blocks, and this many more would pass the limit.
+    HistoryFull { len: u64, need: u64 },
+    /// So many blocks with so many bytes of payloads wait, and one more would pass a limit.
+    WaitFull { blocks: u64, bytes: u64 },
+    /// There was no memory.
+    Mem,
+}
+
+impl From<AllocError> for OfferFault {
+    ghost use Rattle.std.specs.Prelude.{◌≡◌};
+    ghost use Rattle.block_relay.specs.declared.answers.OfferFault.TheVariants.{Mem};
+
+    ghost from_gives = { λ _ fault. fault ≡ Mem };
+
+    fn from(_: AllocError) -> OfferFault {
+        OfferFault::Mem
+    }
+}
+
+/// Why a kind of nodes was refused.
+#[derive(Debug, Drop)]
+pub enum KindFault {
+    /// Another type of blocks is kept.
+    KindClash { held: TypeName, offered: TypeName },
+    /// There was no memory.
+    Mem,
+}
+
+impl From<AllocError> for KindFault {
+    ghost use Rattle.std.specs.Prelude.{◌≡◌};
+    ghost use Rattle.block_relay.specs.declared.answers.KindFault.TheVariants.{Mem};
+
+    ghost from_gives = { λ _ fault. fault ≡ Mem };
+
+    fn from(_: AllocError) -> KindFault {
+        KindFault::Mem
+    }
+}
+
+/// Where a client stands.
+#[derive(Debug, Drop)]
+pub enum Position {
+    /// At the start of its request.
+    Start,
+    /// At the place that an earlier batch reached.
+    At(Place),
+}
+
+/// Why a look was refused.
+#[derive(Debug, Drop)]
+pub enum LookFault {
+    /// The cursor names a block that is not held.
+    Unknown { id: Id },
+    /// The cursor does not fit the history.
+    Misfit { field: MisfitField },
+    /// The stop is below the place where the client stands.
+    StopBelow { end: u64 },
+    /// There was no memory.
+    Mem,
+}
+
+impl From<AllocError> for LookFault {
+    ghost use Rattle.std.specs.Prelude.{◌≡◌};
+    ghost use Rattle.block_relay.specs.declared.answers.LookFault.TheVariants.{Mem};
+
+    ghost from_gives = { λ _ fault. fault ≡ Mem };
+
+    fn from(_: AllocError) -> LookFault {
+        LookFault::Mem
+    }
+}

@@ -1,0 +1,179 @@
+//! Which rule decides an offer.
+
+ghost use Rattle.std.specs.Prelude.{◌≡◌, ◌<◌, ◌++◌, length, IfSome, None, Some, false};
+ghost use Rattle.std.specs.Option.{option_copied};
+ghost use Rattle.block_record.specs.Slips.{slip as slip_of_block, same_slip};
+ghost use Rattle.chain_model.specs.Ancestry.{find_id, has_id};
+ghost use Rattle.chain_model.specs.Finality.{final_tip, root_num};
+ghost use Rattle.relay_model.specs.Offers.{clash, judge_clash, judge_held, judge_linked as judge_linked_in, judge_parent, tip_num};
+ghost use Rattle.block_tree.specs.Places.{place_of, slip_at};
+ghost use Rattle.relay_model.specs.Worlds.{World};
+ghost use Rattle.block_relay.specs.Judged.{HasParts, clash_of, verdict_of_judged};
+
+use block_record::{Block, Id, Slip};
+use fork_db::{ForkDb, Verdict};
+use relay_model::ConflictKind;
+use wait_room::WaitRoom;
+
+/// The rule that decides an offer, the first that applies. Whether a block that links is admitted is
+/// up to the limit of the history.
+#[derive(Clone, Copy, Debug)]
+pub enum Judged<'a> {
+    /// The relay is closed.
+    Shut,
+    /// The same block is held.
+    Repeats,
+    /// It contradicts this block, which is held.
+    Clashes(ConflictKind, &'a Slip),
+    /// Its number is below the first one.
+    TooEarly,
+    /// It is not above the root, or not above the final tip and without a held parent.
+    Late,
+    /// It would have to wait, and passes a limit of the room.
+    NoRoom,
+    /// It has to wait for its parent.
+    Waits,
+    /// It is the root, or its parent is held and it contradicts nothing.
+    Links,
+}
+
+/// Whether the slip is that of the block.
+pub fn is_slip_of(slip: &Slip, block: &Block) -> bool
+    ensures { result ≡ same_slip slip.now (slip_of_block block.now) }
+{
+    slip.num == block.num
+        && slip.id == block.id
+        && slip.parent_num == block.parent_num
+        && slip.parent_id == block.parent_id
+        && slip.lib_num == block.lib_num
+        && slip.time == block.time
+        && slip.length as usize == block.payload.as_bytes().len()
+        && slip.digest == block.digest
+}
+
+/// The number of the final tip, and 0 where there is none.
+pub fn tip_number(db: &ForkDb) -> u64
+    ensures { result ≡ tip_num db.now.history }
+{
+    if db.len() == 0 {
+        return 0;
+    }
+    db.slip(tip_place(db)).num
+}
+
+/// How a block contradicts the history, which has its parent at a place and not itself, and with
+/// which block.
+pub fn clash_with(db: &ForkDb, parent: usize, block: &Block) -> Option<(ConflictKind, usize)>
+    requires fresh { has_id db.now.history block.now.id ≡ false }
+    requires parent { place_of db.now.history block.now.parent_id ≡ Some parent }
+    requires rises { block.now.parent_num < block.now.num }
+    ensures clash { clash_of db.now.history (slip_of_block block.now) result
+        ≡ clash db.now.history (slip_of_block block.now) }
+    ensures range { IfSome result (λ p. p.1 < length db.now.history) }
+{
+    if db.slip(parent).num != block.parent_num {
+        return Some((ConflictKind::Parent, parent));
+    }
+    match db.can_append(block) {
+        Verdict::Disagrees => Some((ConflictKind::Finality, tip_place(db))),
+        _ => None,
+    }
+}
+
+/// The place of the final tip of a history that has blocks.
+fn tip_place(db: &ForkDb) -> usize
+    requires { 0 < length db.now.history }
+    ensures tip { slip_at db.now.history result ≡ final_tip db.now.history }
+    ensures range { result < length db.now.history }
+{
+    let _ = db.len();
+    db.final_tip().unwrap()
+}
+
+/// The rule for a block whose parent is not held.
+fn judge_orphan<'a>(db: &'a ForkDb, room: &WaitRoom, block: &Block) -> Judged<'a>
+    ensures { (w : World) → HasParts w db.now room.now
+        → verdict_of_judged w (slip_of_block block.now) result
+        ≡ judge_parent w (slip_of_block block.now) None }
+{
+    if block.num <= tip_number(db) {
+        return Judged::Late;
+    }
+    if room.fits(block.payload.as_bytes().len() as u64) {
+        Judged::Waits
+    } else {
+        Judged::NoRoom
+    }
+}
+
+/// The rule for a block whose parent is held at a place.
+fn judge_child<'a>(db: &'a ForkDb, parent: usize, block: &Block) -> Judged<'a>
+    requires fresh { has_id db.now.history block.now.id ≡ false }
+    requires parent { place_of db.now.history block.now.parent_id ≡ Some parent }
+    requires rises { block.now.parent_num < block.now.num }
+    ensures { (w : World) → w.history ≡ db.now.history
+        → verdict_of_judged w (slip_of_block block.now) result
+        ≡ judge_clash w (slip_of_block block.now) (clash w.history (slip_of_block block.now)) }
+{
+    match clash_with(db, parent, block) {
+        Some((kind, held)) => Judged::Clashes(kind, db.slip(held)),
+        None => Judged::Links,
+    }
+}
+
+/// The rule for a block that is not held and not below the first number.
+fn judge_linked<'a>(db: &'a ForkDb, room: &WaitRoom, block: &Block) -> Judged<'a>
+    requires { has_id db.now.history block.now.id ≡ false }
+    ensures { (w : World) → HasParts w db.now room.now
+        → verdict_of_judged w (slip_of_block block.now) result
+        ≡ judge_linked_in w (slip_of_block block.now) w.history }
+{
+    if db.len() == 0 {
+        return Judged::Links;
+    }
+    if block.num <= db.slip(0).num {
+        return Judged::Late;
+    }
+    match db.find(&block.parent_id) {
+        Some(parent) => judge_child(db, parent, block),
+        None => judge_orphan(db, room, block),
+    }
+}
+
+/// The block of an id that waits or is in the history.
+fn held_slip<'a>(db: &'a ForkDb, room: &'a WaitRoom, id: &Id) -> Option<&'a Slip>
+    ensures { option_copied result ≡ find_id (room.now.waiting ++ db.now.history) id.now }
+{
+    match room.find(id) {
+        Some(slip) => Some(slip),
+        None => match db.find(id) {
+            Some(at) => Some(db.slip(at)),
+            None => None,
+        },
+    }
+}
+
+/// The rule that decides an offer, in a relay that is open.
+pub fn judge_open<'a>(first: u64, db: &'a ForkDb, room: &'a WaitRoom, block: &Block) -> Judged<'a>
+    ensures { (w : World) → HasParts w db.now room.now → w.first ≡ first
+        → verdict_of_judged w (slip_of_block block.now) result
+        ≡ judge_held w (slip_of_block block.now)
+        (find_id (w.waiting ++ w.history) block.now.id) }
+{
+    match held_slip(db, room, &block.id) {
+        Some(held) => judge_same(held, block),
+        None if block.num < first => Judged::TooEarly,
+        None => judge_linked(db, room, block),
+    }
+}
+
+/// The rule for a block whose id is held.
+fn judge_same<'a>(held: &'a Slip, block: &Block) -> Judged<'a>
+    ensures { (w : World) → verdict_of_judged w (slip_of_block block.now) result
+        ≡ judge_held w (slip_of_block block.now) (Some held.now) }
+{
+    if is_slip_of(held, block) {
+        return Judged::Repeats;
+    }
+    Judged::Clashes(ConflictKind::Id, held)
+}

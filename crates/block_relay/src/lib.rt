@@ -1,0 +1,16 @@
+//! A history that several nodes feed: what an offered block is answered.
+#![tactic(auto)]
+
+mod answers;
+mod judged;
+mod limits;
+mod marks;
+mod relay;
+mod taking;
+#[cfg(test)]
+mod tests;
+
+pub use answers::{KindFault, LookFault, OfferFault, Offered, Position};
+pub use limits::Limits;
+pub use relay::Relay;
+pub use relay_model::{Conflict, ConflictKind};

@@ -1,0 +1,279 @@
+//! The relay.
+
+ghost use Rattle.std.specs.Prelude.{◌≡◌, ◌<◌, ◌≤◌, ◌+◌, ◌∷◌, [], length, reverse, vec_len, vec_capacity, ℕ, List, Err, None, false, IsTrue, IfOk, OnErr, OnOk, Some};
+ghost use Rattle.std.specs.Option.{option_copied, option_map};
+ghost use Rattle.block_record.specs.Slips.{slip as slip_of_block};
+ghost use Rattle.block_tree.specs.Places.{slip_at};
+ghost use Rattle.relay_model.specs.Chronicles.{Kind as KindEntry, Opened, Waited};
+ghost use Rattle.relay_model.specs.Offers.{Waits, conflict, judge as judge_in};
+ghost use Rattle.relay_model.specs.Soundness.{IsSound};
+ghost use Rattle.block_relay.specs.Chronicle.{closed_entries, greeted, limits_told, may_greet, world_told};
+ghost use Rattle.block_relay.specs.Judged.{verdict_of_judged};
+
+use crate::answers::KindFault;
+use crate::judged::{Judged, judge_open};
+use crate::limits::Limits;
+use crate::marks::Mark;
+use block_record::{Block, Kind, Slip, TypeName, slip_of};
+use fork_db::ForkDb;
+use relay_model::{Conflict, ConflictKind};
+use std::alloc::{AllocError, Global};
+use std::marker::Model;
+use std::sync::Arc;
+use wait_room::WaitRoom;
+
+/// A history that several nodes feed, and the blocks that wait for their parents. Contracts see the
+/// entries of its chronicle and the conflicts, what came last first.
+#[derive(Drop)]
+pub struct Relay {
+    first: u64,
+    run: u64,
+    limits: Limits,
+    kind: Option<Kind>,
+    db: ForkDb,
+    room: WaitRoom,
+    /// The slips of the blocks that were answered `Waiting`.
+    waited: Vec<Slip>,
+    /// What was taken. There is room for the last one, which closes the relay.
+    marks: Vec<Mark>,
+    conflicts: Vec<Conflict>,
+    closed: bool,
+    alloc: Global,
+}
+
+impl Model for Relay {
+    ghost use Rattle.std.specs.Prelude.{◌≡◌, ◌<◌, reverse, vec_len, vec_capacity, false, None};
+    ghost use Rattle.relay_model.specs.Chronicles.{Opened};
+    ghost use Rattle.block_relay.specs.Chronicle.{IsKept, Told, entries_by, has_kind_mark, limits_told, world_told};
+
+    ghost Value = { Told };
+
+    ghost view = { λ t. record {
+      entries = entries_by (Opened t.first t.run (limits_told t.limits)) t.kind (reverse t.marks.items) t.db.history (reverse t.waited.items);
+      conflicts = reverse t.conflicts.items;
+    } };
+
+    ghost invariant = { λ t. IsKept (world_told (record {
+      entries = entries_by (Opened t.first t.run (limits_told t.limits)) t.kind (reverse t.marks.items) t.db.history (reverse t.waited.items);
+      conflicts = reverse t.conflicts.items;
+    })) t.db t.room t.kind t.closed t.first t.run
+        × (t.closed ≡ false → vec_len t.marks < vec_capacity t.marks)
+        × (t.kind ≡ None → has_kind_mark (reverse t.marks.items) ≡ false) };
+}
+
+impl Relay {
+    /// No block, for blocks with numbers of at least `first`, in the run of this number.
+    pub fn new(alloc: Global, first: u64, run: u64, limits: Limits) -> Result<Relay, AllocError>
+        ensures entries { IfOk result (λ r. r.entries ≡ Opened first run (limits_told limits) ∷ []) }
+        ensures conflicts { IfOk result (λ r. r.conflicts ≡ []) }
+    {
+        let marks = Vec::with_capacity(alloc, 1)?;
+        let db = ForkDb::new(alloc, limits.history)?;
+        Ok(Relay {
+            first,
+            run,
+            limits,
+            kind: None,
+            db,
+            room: WaitRoom::new(alloc, limits.wait_blocks, limits.wait_bytes),
+            waited: Vec::new(alloc),
+            marks,
+            conflicts: Vec::new(alloc),
+            closed: false,
+            alloc,
+        })
+    }
+
+    /// The kept kind of the nodes.
+    pub fn kind(&self) -> Option<&Kind>
+        ensures { option_copied result ≡ (world_told self.now).kind }
+    {
+        self.kind.as_ref()
+    }
+
+    /// Takes notice of what a node says of itself. The first kind is kept, and later ones have to have
+    /// its type. At an error nothing has changed.
+    pub fn hello(&mut self, kind: &Kind) -> Result<(), KindFault>
+        ensures ok { OnOk result
+            (IsTrue (may_greet (world_told self.old).kind kind.now)
+            × (self.new.entries
+            ≡ greeted (world_told self.old).kind kind.now self.old.entries)) }
+        ensures conflicts { self.new.conflicts ≡ self.old.conflicts }
+        ensures err { OnErr result (self.new.entries ≡ self.old.entries) }
+        // `KindClash` comes exactly where the types differ, but for want of memory.
+        ensures clash { (held offered : List ℕ)
+            → result ≡ Err (KindFault.KindClash held offered)
+            → (may_greet (world_told self.old).kind kind.now ≡ false)
+            × (option_map (λ k. k.block_type) (world_told self.old).kind ≡ Some held)
+            × (kind.now.block_type ≡ offered) }
+    {
+        match &self.kind {
+            Some(held) if held.block_type == kind.block_type => Ok(()),
+            Some(held) => Err(kind_clash(held, kind)),
+            None => {
+                self.keep_kind(kind)?;
+                Ok(())
+            }
+        }
+    }
+
+    /// Keeps the first kind. At an error nothing has changed.
+    fn keep_kind(&mut self, kind: &Kind) -> Result<(), AllocError>
+        requires { (world_told self.old).kind ≡ None }
+        ensures ok { OnOk result
+            (self.new.entries ≡ KindEntry kind.now ∷ self.old.entries) }
+        ensures conflicts { self.new.conflicts ≡ self.old.conflicts }
+        ensures err { OnErr result (self.new.entries ≡ self.old.entries) }
+    {
+        let kept = copy_kind(kind)?;
+        self.marks.reserve(2)?;
+        self.marks.push_reserved(Mark::Kind);
+        self.kind = Some(kept);
+        Ok(())
+    }
+
+    /// Whether the relay is closed.
+    pub fn closed(&self) -> bool
+        ensures { result ≡ (world_told self.now).closed }
+    {
+        self.closed
+    }
+
+    /// How many blocks the history has. The world of a relay is sound.
+    pub fn len(&self) -> u64
+        ensures len { result ≡ length (world_told self.now).history }
+        ensures limit { result ≤ (world_told self.now).limits.history }
+        ensures sound { IsSound (world_told self.now) }
+    {
+        self.db.len()
+    }
+
+    /// How many blocks wait.
+    pub fn waiting(&self) -> u64
+        ensures { result ≡ length (world_told self.now).waiting }
+    {
+        self.room.blocks()
+    }
+
+    /// All conflicts that were noted, in order.
+    pub fn conflicts(&self) -> &[Conflict]
+        ensures { reverse result.now ≡ self.now.conflicts }
+    {
+        self.conflicts.as_slice()
+    }
+
+    /// The slip at a place of the history.
+    pub fn slip(&self, at: usize) -> &Slip
+        requires { at < length (world_told self.now).history }
+        ensures { slip_at (world_told self.now).history at ≡ Some result.now }
+    {
+        self.db.slip(at)
+    }
+
+    /// Closes the relay. A second time changes nothing. It takes no memory.
+    pub fn close(&mut self)
+        ensures entries { self.new.entries
+            ≡ closed_entries (world_told self.old).closed self.old.entries }
+        ensures conflicts { self.new.conflicts ≡ self.old.conflicts }
+    {
+        if !self.closed {
+            self.marks.push_reserved(Mark::Closed);
+            self.closed = true;
+        }
+    }
+
+    /// Which rule decides an offer. It takes no memory.
+    fn judge(&self, block: &Block) -> Judged<'_>
+        ensures { verdict_of_judged (world_told self.now) (slip_of_block block.now) result
+            ≡ judge_in (world_told self.now) (slip_of_block block.now) }
+    {
+        if self.closed {
+            return Judged::Shut;
+        }
+        judge_open(self.first, &self.db, &self.room, block)
+    }
+
+    /// Notes a conflict. At an error nothing has changed.
+    fn note(&mut self, kind: ConflictKind, held: Slip, offered: Slip) -> Result<(), AllocError>
+        ensures entries { self.new.entries ≡ self.old.entries }
+        ensures conflicts { OnOk result
+            (self.new.conflicts ≡ conflict kind held offered ∷ self.old.conflicts) }
+        ensures err { OnErr result (self.new.conflicts ≡ self.old.conflicts) }
+    {
+        self.conflicts.push(Conflict {
+            kind,
+            held,
+            offered,
+        })?;
+        Ok(())
+    }
+
+    /// Lets a block wait. At an error nothing has changed.
+    fn let_wait(&mut self, block: Arc<Block>) -> Result<(), AllocError>
+        requires { judge_in (world_told self.old) (slip_of_block block.value) ≡ Waits }
+        ensures ok { OnOk result
+            (self.new.entries ≡ Waited (slip_of_block block.value) ∷ self.old.entries) }
+        ensures conflicts { self.new.conflicts ≡ self.old.conflicts }
+        ensures err { OnErr result (self.new.entries ≡ self.old.entries) }
+    {
+        let (slip, kept) = two_slips(self.alloc, &block)?;
+        make_room(&mut self.waited, &mut self.marks)?;
+        self.room.put(slip, block)?;
+        self.waited.push_reserved(kept);
+        self.marks.push_reserved(Mark::Waited);
+        Ok(())
+    }
+}
+
+/// The two types, or that there was no memory to tell them.
+fn kind_clash(held: &Kind, offered: &Kind) -> KindFault
+    ensures { (h o : List ℕ) → result ≡ KindFault.KindClash h o
+        → (h ≡ held.now.block_type) × (o ≡ offered.now.block_type) }
+{
+    match two_types(held, offered) {
+        Ok((held, offered)) => KindFault::KindClash { held, offered },
+        Err(_) => KindFault::Mem,
+    }
+}
+
+fn copy_kind(kind: &Kind) -> Result<Kind, AllocError>
+    ensures { IfOk result (λ k. k ≡ kind.now) }
+{
+    let block_type = kind.block_type.clone()?;
+    Ok(Kind {
+        version: kind.version,
+        block_type,
+    })
+}
+
+fn two_types(held: &Kind, offered: &Kind) -> Result<(TypeName, TypeName), AllocError>
+    ensures { IfOk result
+        (λ p. (p.0 ≡ held.now.block_type) × (p.1 ≡ offered.now.block_type)) }
+{
+    let held = held.block_type.clone()?;
+    let offered = offered.block_type.clone()?;
+    Ok((held, offered))
+}
+
+/// The slip of a block, twice.
+fn two_slips(alloc: Global, block: &Block) -> Result<(Slip, Slip), AllocError>
+    ensures { IfOk result
+        (λ p. (p.0 ≡ slip_of_block block.now) × (p.1 ≡ slip_of_block block.now)) }
+{
+    let first = slip_of(alloc, block)?;
+    let second = slip_of(alloc, block)?;
+    Ok((first, second))
+}
+
+/// Makes room for a block that waits, and for the last mark after it.
+fn make_room(waited: &mut Vec<Slip>, marks: &mut Vec<Mark>) -> Result<(), AllocError>
+    ensures waited { waited.new.items ≡ waited.old.items }
+    ensures marks { marks.new.items ≡ marks.old.items }
+    ensures len { vec_len marks.new ≡ vec_len marks.old }
+    ensures capacity { vec_capacity marks.old ≤ vec_capacity marks.new }
+    ensures ok { OnOk result ((vec_len waited.new < vec_capacity waited.new)
+        × (vec_len marks.new + 2 ≤ vec_capacity marks.new)) }
+{
+    waited.reserve(1)?;
+    marks.reserve(2)
+}

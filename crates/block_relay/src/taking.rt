@@ -1,0 +1,135 @@
+//! The waiting blocks that follow an admitted block.
+
+ghost use Rattle.std.specs.Prelude.{◌≡◌, ◌<◌, ◌≤◌, ◌+◌, [], length, reverse, vec_len, vec_capacity, IfSome, Some, true, false};
+ghost use Rattle.std.specs.Option.{is_some};
+ghost use Rattle.block_record.specs.Slips.{slip as slip_of_block};
+ghost use Rattle.chain_model.specs.Ancestry.{has_id};
+ghost use Rattle.block_tree.specs.Places.{place_of};
+ghost use Rattle.relay_model.specs.Offers.{clash, purged, take_in, take_one};
+ghost use Rattle.relay_model.specs.Worlds.{descendants, next_waiting};
+ghost use Rattle.block_relay.specs.Taking.{AreWithin, CanStart, CanTake, clashes_seen, dropped_after, history_after, intake_from, intake_of};
+
+use crate::judged::{clash_with, tip_number};
+use block_record::{Block, Id, Slip};
+use fork_db::ForkDb;
+use relay_model::ConflictKind;
+use std::sync::Arc;
+use wait_room::{Holds, WaitRoom};
+
+/// A waiting block that was dropped, and the place of the block that it contradicts.
+#[derive(Debug, Drop)]
+pub struct Dropped {
+    pub kind: ConflictKind,
+    pub held: usize,
+    pub offered: Slip,
+}
+
+/// The history, asked for ids.
+#[derive(Drop)]
+struct History<'a>(&'a ForkDb);
+
+impl Holds for History<'_> {
+    ghost history = { λ h. h.0.now.history };
+
+    fn holds(&self, id: &Id) -> bool {
+        self.0.find(id).is_some()
+    }
+}
+
+/// Admits a block and the waiting blocks that follow it, and lets those go whose numbers are at most
+/// the final tip's. It takes no memory.
+pub fn admit(
+    db: &mut ForkDb,
+    room: &mut WaitRoom,
+    dropped: &mut Vec<Dropped>,
+    slip: Slip,
+    block: Arc<Block>,
+)
+    requires own { slip ≡ slip_of_block block.value }
+    requires can { CanStart db.old room.old slip }
+    requires room { 1 + descendants room.old.waiting slip.id ≤ db.old.room }
+    requires empty { dropped.old.items ≡ [] }
+    requires capacity { length room.old.waiting ≤ vec_capacity dropped.old }
+    ensures history { db.new.history
+        ≡ (intake_from db.old.history room.old.waiting slip).history }
+    ensures waiting { room.new.waiting ≡ purged db.new.history
+        (intake_from db.old.history room.old.waiting slip).waiting }
+    ensures dropped { clashes_seen db.new.history (reverse dropped.new.items)
+        ≡ (intake_from db.old.history room.old.waiting slip).dropped }
+    ensures within { AreWithin db.new.history (reverse dropped.new.items) }
+{
+    let _ = db.append(slip, block);
+    take_waiting(db, room, dropped);
+    room.drop_through(tip_number(db));
+}
+
+/// Takes the waiting blocks whose parents have come, one by one, the least number first. Each is
+/// appended, or dropped where it contradicts the history. It takes no memory.
+pub fn take_waiting(db: &mut ForkDb, room: &mut WaitRoom, dropped: &mut Vec<Dropped>)
+    requires can { CanTake (intake_of db.old room.old dropped.old.items) db.old.room }
+    requires capacity { vec_len dropped.old + length room.old.waiting ≤ vec_capacity dropped.old }
+    requires within { AreWithin db.old.history (reverse dropped.old.items) }
+    ensures taken { intake_of db.new room.new dropped.new.items
+        ≡ take_in (length room.old.waiting) (intake_of db.old room.old dropped.old.items) }
+    ensures within { AreWithin db.new.history (reverse dropped.new.items) }
+{
+    for _ in 0..room.blocks() {
+        if !take_next(db, room, dropped) {
+            return;
+        }
+    }
+}
+
+/// Takes the next waiting block whose parent has come, where there is one.
+fn take_next(db: &mut ForkDb, room: &mut WaitRoom, dropped: &mut Vec<Dropped>) -> bool
+    requires can { CanTake (intake_of db.old room.old dropped.old.items) db.old.room }
+    requires capacity { vec_len dropped.old + length room.old.waiting ≤ vec_capacity dropped.old }
+    requires within { AreWithin db.old.history (reverse dropped.old.items) }
+    ensures some { result ≡ is_some (next_waiting db.old.history room.old.waiting) }
+    ensures taken { intake_of db.new room.new dropped.new.items
+        ≡ take_one (intake_of db.old room.old dropped.old.items)
+        (next_waiting db.old.history room.old.waiting) }
+    ensures can { CanTake (intake_of db.new room.new dropped.new.items) db.new.room }
+    ensures capacity { vec_len dropped.new + length room.new.waiting ≤ vec_capacity dropped.new }
+    ensures within { AreWithin db.new.history (reverse dropped.new.items) }
+{
+    match room.take_next(&History(db)) {
+        Some((slip, block)) => {
+            place(db, dropped, slip, block);
+            true
+        }
+        None => false,
+    }
+}
+
+/// Appends a block whose parent is held, or drops it where it contradicts the history.
+fn place(db: &mut ForkDb, dropped: &mut Vec<Dropped>, slip: Slip, block: Arc<Block>)
+    requires own { slip ≡ slip_of_block block.value }
+    requires fresh { has_id db.old.history slip.id ≡ false }
+    requires parent { has_id db.old.history slip.parent_id ≡ true }
+    requires rises { slip.parent_num < slip.num }
+    requires room { 0 < db.old.room }
+    requires capacity { vec_len dropped.old < vec_capacity dropped.old }
+    requires within { AreWithin db.old.history (reverse dropped.old.items) }
+    ensures history { db.new.history
+        ≡ history_after db.old.history slip (clash db.old.history slip) }
+    ensures dropped { clashes_seen db.new.history (reverse dropped.new.items)
+        ≡ dropped_after (clashes_seen db.old.history (reverse dropped.old.items))
+        (clash db.old.history slip) }
+    ensures room { db.old.room ≤ db.new.room + 1 }
+    ensures within { AreWithin db.new.history (reverse dropped.new.items) }
+    ensures len { vec_len dropped.new ≤ vec_len dropped.old + 1 }
+    ensures capacity { vec_capacity dropped.new ≡ vec_capacity dropped.old }
+{
+    let parent = db.find(&slip.parent_id).unwrap();
+    match clash_with(db, parent, &block) {
+        Some((kind, held)) => dropped.push_reserved(Dropped {
+            kind,
+            held,
+            offered: slip,
+        }),
+        None => {
+            let _ = db.append(slip, block);
+        }
+    }
+}
