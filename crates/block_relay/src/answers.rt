@@ -1,10 +1,8 @@
 //! What a relay answers.
 
-use block_record::{Id, TypeName};
-use chain_model::Place;
+use block_record::TypeName;
 use relay_model::Conflict;
 use std::alloc::AllocError;
-use step_cursor::MisfitField;
 
 /// What became of an offered block.
 #[derive(Debug, Drop)]
@@ -69,38 +67,5 @@ impl From<AllocError> for KindFault {
 
     fn from(_: AllocError) -> KindFault {
         KindFault::Mem
-    }
-}
-
-/// Where a client stands.
-#[derive(Debug, Drop)]
-pub enum Position {
-    /// At the start of its request.
-    Start,
-    /// At the place that an earlier batch reached.
-    At(Place),
-}
-
-/// Why a look was refused.
-#[derive(Debug, Drop)]
-pub enum LookFault {
-    /// The cursor names a block that is not held.
-    Unknown { id: Id },
-    /// The cursor does not fit the history.
-    Misfit { field: MisfitField },
-    /// The stop is below the place where the client stands.
-    StopBelow { end: u64 },
-    /// There was no memory.
-    Mem,
-}
-
-impl From<AllocError> for LookFault {
-    ghost use Rattle.std.specs.Prelude.{◌≡◌};
-    ghost use Rattle.block_relay.specs.declared.answers.LookFault.TheVariants.{Mem};
-
-    ghost from_gives = { λ _ fault. fault ≡ Mem };
-
-    fn from(_: AllocError) -> LookFault {
-        LookFault::Mem
     }
 }

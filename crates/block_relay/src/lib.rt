@@ -10,7 +10,8 @@ mod taking;
 #[cfg(test)]
 mod tests;
 
-pub use answers::{KindFault, LookFault, OfferFault, Offered, Position};
+pub use answers::{KindFault, OfferFault, Offered};
 pub use limits::Limits;
 pub use relay::Relay;
+pub use relay_look::{Look, LookFault, Position};
 pub use relay_model::{Conflict, ConflictKind};

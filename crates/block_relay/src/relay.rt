@@ -1,9 +1,15 @@
 //! The relay.
 
-ghost use Rattle.std.specs.Prelude.{◌≡◌, ◌<◌, ◌≤◌, ◌+◌, ◌∷◌, [], length, reverse, vec_len, vec_capacity, ℕ, List, Err, None, false, IsTrue, IfOk, OnErr, OnOk, Some};
+ghost use Rattle.std.specs.Prelude.{◌++◌, drop, map, take, Option, ◌≡◌, ◌<◌, ◌≤◌, ◌+◌, ◌∷◌, [], length, reverse, vec_len, vec_capacity, ℕ, List, Err, None, false, IsTrue, IfOk, OnErr, OnOk, Some};
 ghost use Rattle.std.specs.Option.{option_copied, option_map};
 ghost use Rattle.block_record.specs.Slips.{slip as slip_of_block};
 ghost use Rattle.block_tree.specs.Places.{slip_at};
+ghost use Rattle.block_record.specs.declared.blocks.Slip.{Slip as SlipOf};
+ghost use Rattle.chain_model.specs.declared.places.Mode.{Mode as ModeOf};
+ghost use Rattle.chain_model.specs.Places.{steps_to};
+ghost use Rattle.fork_db.specs.Batches.{IsGiven, WasGiven, item_seen};
+ghost use Rattle.relay_look.specs.Answers.{FitsAt, HasBatchOf, IsLook, position_of};
+ghost use Rattle.relay_model.specs.Looks.{looked};
 ghost use Rattle.relay_model.specs.Chronicles.{Kind as KindEntry, Opened, Waited};
 ghost use Rattle.relay_model.specs.Offers.{Waits, conflict, judge as judge_in};
 ghost use Rattle.relay_model.specs.Soundness.{IsSound};
@@ -15,11 +21,13 @@ use crate::judged::{Judged, judge_open};
 use crate::limits::Limits;
 use crate::marks::Mark;
 use block_record::{Block, Kind, Slip, TypeName, slip_of};
-use fork_db::ForkDb;
+use fork_db::{Batch, ForkDb, StepItem};
+use relay_look::{Look, LookFault, Position, look};
 use relay_model::{Conflict, ConflictKind};
 use std::alloc::{AllocError, Global};
 use std::marker::Model;
 use std::sync::Arc;
+use step_cursor::Request;
 use wait_room::WaitRoom;
 
 /// A history that several nodes feed, and the blocks that wait for their parents. Contracts see the
@@ -168,6 +176,37 @@ impl Relay {
         ensures { slip_at (world_told self.now).history at ≡ Some result.now }
     {
         self.db.slip(at)
+    }
+
+    /// What a client gets next that stands at the position. A place where it stands is one that an
+    /// earlier batch of this relay reached, so that it fits the history.
+    pub fn look(&self, request: &Request, position: &Position) -> Result<Look, LookFault>
+        requires { FitsAt (world_told self.now).history position.now }
+        ensures said { IsLook
+            (looked (world_told self.now) request.now (position_of position.now)) result }
+        ensures given { HasBatchOf (world_told self.now).history request.now result }
+    {
+        look(&self.db, self.run, self.closed, request, position)
+    }
+
+    /// Appends the steps of a batch from an index, at most `max`, each with its slip, its block where
+    /// it is still held, and the place after it: none where the index is at or past their end. The
+    /// history may have grown since the batch was given. At an error `out` is as it was.
+    pub fn chunk(
+        &self,
+        batch: &Batch,
+        from: u64,
+        max: u32,
+        out: &mut Vec<StepItem>,
+    ) -> Result<(), AllocError>
+        requires { WasGiven (world_told self.now).history batch.now }
+        ensures ok { (older : List SlipOf) (mode : ModeOf) (stop : Option ℕ)
+            → IsGiven (world_told self.now).history older mode stop batch.now
+            → OnOk result (map item_seen out.new.items ≡ map item_seen out.old.items
+            ++ take max (drop from (steps_to older batch.now.place mode stop))) }
+        ensures err { OnErr result (out.new.items ≡ out.old.items) }
+    {
+        self.db.chunk(batch, from, max, out)
     }
 
     /// Closes the relay. A second time changes nothing. It takes no memory.
