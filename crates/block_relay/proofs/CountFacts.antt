@@ -1,7 +1,7 @@
 -- How many waiting blocks an admitted block can bring into the history: those that descend from it.
 use Rattle.std.proofs.Common.{arith, ◌≡◌, ◌≤◌, ◌<◌, ◌+◌, ◌⊎◌, inl, inr, ℕ, zero, suc, Bool, true, false, not, cond, ◌||◌, ◌&&◌, List, [], ◌∷◌, ◌++◌, length, Option, Some, None, refl, sym, ◌∙◌, ap, subst}
 use Rattle.std.specs.List.{AllByRecursion, filter, list_any}
-use Rattle.std.proofs.lemmas.Bool.{cases_Bool, or_parts, or_cases, both_ways, false_from_ne_true}
+use Rattle.std.proofs.lemmas.Bool.{cases_Bool, or_cases, both_ways}
 use Rattle.std.proofs.lemmas.List.{length-append}
 use Rattle.std.proofs.lemmas.List.Folds.{list_any-append}
 use Rattle.std.proofs.lemmas.Option.{same_Some}
@@ -11,7 +11,7 @@ use Rattle.chain_model.specs.Ancestry.{find_id, has_id}
 use Rattle.relay_model.specs.declared.answers.Conflict.{Conflict as Clash}
 use Rattle.relay_model.specs.Worlds.{World, descendants, descends, next_waiting, without}
 use Rattle.relay_model.specs.Offers.{Intake, clash, intake, take_judged, take_one, take_in}
-use Rattle.relay_model.specs.Soundness.{IsDistinct, IsSound}
+use Rattle.relay_model.specs.Soundness.{IsSound}
 use Rattle.relay_model.proofs.Intakes.{IsTaken, all_filter, distinct_filter, find_of, next_is, without_short}
 use Rattle.relay_model.proofs.Entries.{distinct_found}
 use Rattle.block_relay.specs.Taking.{Counted}

@@ -1,7 +1,6 @@
 -- The rule that decides an offer, step by step.
 use Rattle.std.proofs.Common.{arith, ◌≡◌, ◌<◌, ◌≤◌, ◌==◌, ◌&&◌, ℕ, Bool, true, false, cond, List, [], ◌∷◌, ◌++◌, length, Option, Some, None, refl, sym, ◌∙◌, ap, subst, inl, inr, suc, is_some, IsSome, nat_le, nat_lt}
 use Rattle.std.specs.Option.{option_or}
-use Rattle.std.specs.List.{find}
 use Rattle.std.proofs.lemmas.List.Folds.{find-append}
 use Rattle.std.proofs.lemmas.Bool.{cases_Bool, cases_eq}
 use Rattle.std.proofs.lemmas.Option.{same_Some}
@@ -13,12 +12,11 @@ use Rattle.chain_model.specs.Finality.{root_num, claim, final_tip}
 use Rattle.block_tree.specs.Places.{slip_at, slip_of}
 use Rattle.block_tree.proofs.PlaceFacts.{slip_at_past}
 use Rattle.fork_db.specs.Verdicts.{verdict_of, fits, agrees_with, agrees_next, claim_verdict, parent_verdict}
-use Rattle.fork_db.specs.declared.db.Verdict.{Verdict}
 use Rattle.fork_db.specs.declared.db.Verdict.TheVariants as verdict
 use Rattle.fork_db.proofs.ClaimFacts.{tip_there}
 use Rattle.relay_model.specs.declared.answers.ConflictKind.TheVariants as kind
 use Rattle.relay_model.specs.Worlds.{World}
-use Rattle.relay_model.specs.Offers.{Late, clash, conflict, claim_agrees, finality_clash, judge_clash, judge_linked, judge_parent, parent_clash}
+use Rattle.relay_model.specs.Offers.{Late, clash, conflict, claim_agrees, finality_clash, judge_linked, judge_parent, parent_clash}
 
 -- a history with blocks has a final tip
 pub tip_place : (newest : List Slip) (o : Option ℕ) → IsHistory newest → 0 < length newest → slip_of newest o ≡ final_tip newest → IsSome o

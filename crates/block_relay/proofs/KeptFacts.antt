@@ -1,5 +1,5 @@
 -- What a relay keeps as it takes one more thing.
-use Rattle.std.proofs.Common.{arith, cond, length, leb, ltb, inl, inr, None, Some, IsTrue, ◌≡◌, ◌++◌, ℕ, Bool, true, false, List, [], ◌∷◌, Option, reverse, refl, sym, ◌∙◌, ap, subst}
+use Rattle.std.proofs.Common.{arith, cond, leb, ltb, inl, inr, None, Some, IsTrue, ◌≡◌, ◌++◌, ℕ, Bool, true, false, List, [], ◌∷◌, Option, reverse, refl, sym, ◌∙◌, ap}
 use Rattle.std.proofs.lemmas.List.{reverse-append}
 use Rattle.std.proofs.lemmas.Bool.{cases_Bool, lt-ltb}
 use Rattle.block_record.specs.declared.blocks.Block.{Block}

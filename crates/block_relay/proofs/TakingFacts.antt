@@ -1,24 +1,25 @@
 -- The waiting blocks as they are taken: what was dropped, as the history grows, and what may be taken next.
-use Rattle.std.proofs.Common.{arith, ◌≡◌, ◌<◌, ◌≤◌, ◌+◌, List, [], ◌∷◌, ◌++◌, length, reverse, Option, Some, None, refl, sym, ◌∙◌, ap, ℕ, Bool, true, false, is_some, filter, inl, inr, subst}
+use Rattle.std.proofs.Common.{arith, ◌≡◌, ◌≤◌, ◌+◌, List, [], ◌∷◌, ◌++◌, length, reverse, Option, Some, None, refl, sym, ap, ℕ, false, is_some, filter, inl, inr, subst}
 use Rattle.std.specs.List.{AllByRecursion}
 use Rattle.std.proofs.lemmas.List.{reverse-append}
 use Rattle.block_record.specs.declared.blocks.Slip.{Slip}
-use Rattle.block_tree.specs.Places.{slip_at}
 use Rattle.block_tree.proofs.PlaceFacts.{slip_at_past}
 use Rattle.relay_model.specs.declared.answers.Conflict.{Conflict as Clash}
 use Rattle.block_relay.specs.declared.taking.Dropped.{Dropped}
-use Rattle.relay_model.specs.Worlds.{descendants, descends, next_waiting, without}
+use Rattle.relay_model.specs.Worlds.{descendants, descends, least, next_waiting, without}
 use Rattle.relay_model.specs.Offers.{Intake, clash, take_judged, take_one}
 use Rattle.chain_model.specs.Ancestry.{has_id}
 use Rattle.chain_model.specs.Finality.{root_num}
 use Rattle.fork_db.specs.Forks.{Forks}
 use Rattle.fork_db.specs.Verdicts.{verdict_of, fits}
-use Rattle.wait_room.specs.Rooms.{Room}
+use Rattle.wait_room.specs.Rooms.{Room, has_child}
+use Rattle.block_record.specs.Ids.{same_id}
+use Rattle.std.proofs.lemmas.Bool.{or_parts}
 use Rattle.relay_model.proofs.Judged.{IsTaker, judged_takes}
-use Rattle.relay_model.proofs.Sound.{first_intake, new_parts, rises_above, starts}
+use Rattle.relay_model.proofs.Sound.{first_intake, new_parts, rises_above, starts, swap_ids}
 use Rattle.block_relay.proofs.JudgedFacts.{fits_child}
 use Rattle.relay_model.proofs.Intakes.{keeps_one, next_is}
-use Rattle.block_relay.specs.Taking.{AreWithin, CanStart, CanTake, clash_with, clashes_seen, dropped_after, history_after}
+use Rattle.block_relay.specs.Taking.{AreWithin, CanStart, CanTake, clashes_seen, dropped_after, history_after}
 use Rattle.block_relay.proofs.CountFacts.{counts_first, counts_one, next_counts}
 
 abbrev pub intake_by : List Slip → List Slip → List Clash → Intake
@@ -90,3 +91,15 @@ start_can db room s left can le =
       taking = starts can.world s can.sound can.block is;
       enough = omega (arith, le, ap (λ l. descendants l s.id) can.parts.waiting);
     }
+
+-- no waiting block can follow where none names the block as its parent
+pub none_follows : (db : Forks) (room : Room) (s : Slip) → CanStart db room s → has_child room.waiting s.id ≡ false → next_waiting (s ∷ db.history) room.waiting ≡ None
+none_follows db room s can none =
+    let apart : AllByRecursion (λ x. has_id db.history x.parent_id ≡ false) room.waiting = rw (← can.parts.history, ← can.parts.waiting) can.sound.orphans in
+    ap least (nobody room.waiting apart none)
+  where
+    nobody : (xs : List Slip) → AllByRecursion (λ x. has_id db.history x.parent_id ≡ false) xs → has_child xs s.id ≡ false → filter (λ x. has_id (s ∷ db.history) x.parent_id) xs ≡ []
+    nobody [] all h = refl
+    nobody (x ∷ xs) all h =
+        let parts = or_parts (same_id x.parent_id s.id) (has_child xs s.id) h in
+        rw (swap_ids x.parent_id s.id parts.0, all.0) (nobody xs all.1 parts.1)

@@ -1,11 +1,11 @@
 -- What callers see of a relay, and what it keeps of it.
-use Rattle.std.specs.Prelude.{ℕ, ◌≡◌, Bool, true, false, List, [], ◌∷◌, ◌++◌, Option, None, Some, reverse}
+use Rattle.std.specs.Prelude.{ℕ, ◌≡◌, Bool, true, false, List, [], ◌∷◌, ◌++◌, Option, None, Some}
 use Rattle.std.specs.Str.{bytes_eq}
 use Rattle.block_record.specs.declared.blocks.Slip.{Slip}
 use Rattle.block_record.specs.declared.blocks.Kind.{Kind as NodeKind}
 use Rattle.relay_model.specs.declared.answers.Conflict.{Conflict as Clash}
 use Rattle.relay_model.specs.Worlds.{World, Limits}
-use Rattle.relay_model.specs.Chronicles.{Entry, Opened, Kind, Admitted, Waited, Stored, Closed, world_of}
+use Rattle.relay_model.specs.Chronicles.{Entry, Kind, Admitted, Waited, Stored, Closed, world_of}
 use Rattle.relay_model.specs.Soundness.{IsSound}
 use Rattle.fork_db.specs.Forks.{Forks}
 use Rattle.wait_room.specs.Rooms.{Room}

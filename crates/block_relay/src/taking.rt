@@ -1,6 +1,6 @@
 //! The waiting blocks that follow an admitted block.
 
-ghost use Rattle.std.specs.Prelude.{◌≡◌, ◌<◌, ◌≤◌, ◌+◌, [], length, reverse, vec_len, vec_capacity, IfSome, Some, true, false};
+ghost use Rattle.std.specs.Prelude.{◌≡◌, ◌<◌, ◌≤◌, ◌+◌, [], length, reverse, vec_len, vec_capacity, IfSome, None, Some, true, false};
 ghost use Rattle.std.specs.Option.{is_some};
 ghost use Rattle.block_record.specs.Slips.{slip as slip_of_block};
 ghost use Rattle.chain_model.specs.Ancestry.{has_id};
@@ -58,9 +58,25 @@ pub fn admit(
         ≡ (intake_from db.old.history room.old.waiting slip).dropped }
     ensures within { AreWithin db.new.history (reverse dropped.new.items) }
 {
+    let any = room.has_child(&slip.id);
     let _ = db.append(slip, block);
-    take_waiting(db, room, dropped);
+    follow(db, room, dropped, any);
     room.drop_through(tip_number(db));
+}
+
+/// The same as `take_waiting`, without a look at the blocks that wait where none of them can follow.
+fn follow(db: &mut ForkDb, room: &mut WaitRoom, dropped: &mut Vec<Dropped>, any: bool)
+    requires any { any ≡ false → next_waiting db.old.history room.old.waiting ≡ None }
+    requires can { CanTake (intake_of db.old room.old dropped.old.items) db.old.room }
+    requires capacity { vec_len dropped.old + length room.old.waiting ≤ vec_capacity dropped.old }
+    requires within { AreWithin db.old.history (reverse dropped.old.items) }
+    ensures taken { intake_of db.new room.new dropped.new.items
+        ≡ take_in (length room.old.waiting) (intake_of db.old room.old dropped.old.items) }
+    ensures within { AreWithin db.new.history (reverse dropped.new.items) }
+{
+    if any {
+        take_waiting(db, room, dropped);
+    }
 }
 
 /// Takes the waiting blocks whose parents have come, one by one, the least number first. Each is

@@ -1,4 +1,4 @@
-use Rattle.std.proofs.Common.{Some, ap, sym, ◌∙◌}
+use Rattle.std.proofs.Common.{ap, sym, ◌∙◌}
 use Rattle.block_record.specs.Slips.{slip}
 use Rattle.block_tree.proofs.PlaceFacts.{find_some, place_range}
 use Rattle.relay_model.specs.declared.answers.ConflictKind.TheVariants as kind

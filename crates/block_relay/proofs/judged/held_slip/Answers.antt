@@ -1,4 +1,4 @@
-use Rattle.std.proofs.Common.{None, Some, ap, sym, ◌∙◌}
+use Rattle.std.proofs.Common.{ap, sym, ◌∙◌}
 use Rattle.std.specs.Option.{option_copied, option_or}
 use Rattle.chain_model.specs.Ancestry.{find_id}
 use Rattle.block_tree.proofs.PlaceFacts.{find_none, find_some, place_range}

@@ -1,4 +1,4 @@
-use Rattle.std.proofs.Common.{◌≡◌, ap, sym, ◌∙◌}
+use Rattle.std.proofs.Common.{ap, sym, ◌∙◌}
 use Rattle.block_tree.specs.Places.{slip_of}
 use Rattle.fork_db.proofs.ClaimFacts.{tip_range}
 use Rattle.block_relay.proofs.JudgedFacts.{tip_place}

@@ -1,10 +1,7 @@
-use Rattle.std.proofs.Common.{◌≡◌, ◌∷◌, ◌++◌, Some, None, Option, List, reverse, is_some, subst, ap, sym, ◌∙◌}
-use Rattle.std.proofs.lemmas.Option.{same_Some}
+use Rattle.std.proofs.Common.{◌≡◌, ◌++◌, Some, None, Option, List, reverse, is_some, subst, ap, sym, ◌∙◌}
 use Rattle.block_record.specs.declared.blocks.Slip.{Slip}
 use Rattle.block_record.specs.Slips.{slip}
-use Rattle.block_tree.specs.Places.{slip_at}
 use Rattle.block_tree.proofs.PlaceFacts.{is_held, on_ok, place_slip}
-use Rattle.fork_db.specs.Forks.{IsAppended}
 use Rattle.relay_model.specs.Offers.{clash, conflict}
 use Rattle.block_relay.specs.Judged.{clash_at, clash_of}
 use Rattle.block_relay.specs.Taking.{AreWithin, clash_with, clashes_seen, dropped_after, history_after}

@@ -1,13 +1,12 @@
-use Rattle.std.proofs.Common.{arith, ◌≡◌, ◌≤◌, ◌<◌, ◌+◌, Some, false, length, filter, subst, ap, sym, ◌∙◌}
+use Rattle.std.proofs.Common.{arith, ◌≡◌, ◌<◌, Some, false, length, subst, ap, sym, ◌∙◌}
 use Rattle.std.specs.Option.{option_map}
-use Rattle.block_record.specs.declared.blocks.Slip.{Slip}
 use Rattle.chain_model.specs.Ancestry.{has_id}
 use Rattle.wait_room.specs.Rooms.{Room, room_without}
-use Rattle.relay_model.specs.Worlds.{descends, next_waiting, without}
+use Rattle.relay_model.specs.Worlds.{next_waiting, without}
 use Rattle.relay_model.specs.Offers.{Intake, clash, take_one}
-use Rattle.relay_model.proofs.Intakes.{IsTaking, keeps_one, next_is}
+use Rattle.relay_model.proofs.Intakes.{next_is}
 use Rattle.block_relay.specs.Taking.{CanTake, intake_of}
-use Rattle.block_relay.proofs.CountFacts.{counts_one, next_counts}
+use Rattle.block_relay.proofs.CountFacts.{next_counts}
 use Rattle.block_relay.proofs.TakingFacts.{next_can, placed}
 use Rattle.block_relay.proofs.taking.take_next.Goals as goal
 

@@ -1,4 +1,4 @@
-use Rattle.std.proofs.Common.{arith, ◌≡◌, ◌-◌, ◌+◌, suc, None, is_some, length, ap, sym, ◌∙◌}
+use Rattle.std.proofs.Common.{arith, ◌≡◌, ◌-◌, ◌+◌, suc, None, length, ap, sym, ◌∙◌}
 use Rattle.relay_model.specs.Worlds.{next_waiting}
 use Rattle.relay_model.specs.Offers.{take_in, take_one}
 use Rattle.relay_model.proofs.Intakes.{stays}

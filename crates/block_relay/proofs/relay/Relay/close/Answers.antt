@@ -1,4 +1,4 @@
-use Rattle.std.proofs.Common.{arith, ◌≡◌, ◌∷◌, false, true, reverse, refl, ap, sym, ◌∙◌, subst, List}
+use Rattle.std.proofs.Common.{arith, ◌≡◌, ◌∷◌, false, true, reverse, ap, sym, ◌∙◌, subst, List}
 use Rattle.relay_model.specs.Chronicles.{Opened}
 use Rattle.block_relay.specs.declared.marks.Mark.{Mark}
 use Rattle.block_relay.specs.declared.marks.Mark.TheVariants as mark

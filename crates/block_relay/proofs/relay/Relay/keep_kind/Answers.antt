@@ -1,9 +1,8 @@
-use Rattle.std.proofs.Common.{arith, ◌≡◌, [], ◌∷◌, ◌++◌, Some, None, false, reverse, ap, sym, ◌∙◌, subst, List}
+use Rattle.std.proofs.Common.{arith, ◌≡◌, [], ◌∷◌, ◌++◌, Some, None, reverse, ap, sym, ◌∙◌}
 use Rattle.relay_model.specs.Chronicles.{Kind, Opened}
-use Rattle.block_relay.specs.declared.marks.Mark.{Mark}
 use Rattle.block_relay.specs.declared.marks.Mark.TheVariants as mark
-use Rattle.block_relay.specs.Chronicle.{IsKept, Told, entries_by, has_kind_mark, limits_told, world_told}
-use Rattle.block_relay.proofs.KeptFacts.{keeps_kind, marks_push, other_kind, told}
+use Rattle.block_relay.specs.Chronicle.{Told, entries_by, limits_told, world_told}
+use Rattle.block_relay.proofs.KeptFacts.{keeps_kind, marks_push, other_kind}
 use Rattle.block_relay.proofs.relay.Relay.keep_kind.Goals as goal
 
 pub invariant_of-self-2 : goal.invariant_of-self-2

@@ -2,12 +2,12 @@ use Rattle.std.proofs.Common.{arith, ◌≡◌, [], ◌∷◌, ◌++◌, false, 
 use Rattle.block_record.specs.declared.blocks.Slip.{Slip}
 use Rattle.block_record.specs.Slips.{slip}
 use Rattle.chain_model.specs.Ancestry.{has_id}
-use Rattle.wait_room.specs.Rooms.{Room, fits_in, with_block}
+use Rattle.wait_room.specs.Rooms.{fits_in, with_block}
 use Rattle.relay_model.specs.Chronicles.{Opened}
 use Rattle.relay_model.specs.Offers.{Waits, judge}
 use Rattle.block_relay.specs.declared.marks.Mark.TheVariants as mark
-use Rattle.block_relay.specs.Chronicle.{Told, IsKept, entries_by, has_kind_mark, limits_told, world_told}
-use Rattle.block_relay.proofs.KeptFacts.{fits_room, lacks_room, marks_push, slips_push, told, waits}
+use Rattle.block_relay.specs.Chronicle.{Told, entries_by, has_kind_mark, limits_told, world_told}
+use Rattle.block_relay.proofs.KeptFacts.{fits_room, lacks_room, marks_push, slips_push, waits}
 use Rattle.block_relay.proofs.relay.Relay.let_wait.Goals as goal
 
 pub put-requires-clause-fits : goal.put-requires-clause-fits
