@@ -2,9 +2,11 @@
 #![tactic(auto)]
 
 mod calls;
+mod names;
 mod traits;
 
 pub use calls::{ReadStop, TEXT_BYTES_MAX, read_whole, write_whole};
+pub use names::FileName;
 pub use traits::{Failed, NoShelf, Shelf, Sink, Source};
 
 #[cfg(test)]

@@ -1,0 +1,2 @@
+mod CalendarFacts
+mod JoinFacts

@@ -1,0 +1,13 @@
+//! Names of the plant's files, as texts and as values.
+#![tactic(auto)]
+
+mod files;
+mod moments;
+mod names;
+mod parse;
+mod print;
+mod read;
+
+pub use files::{bare_name, forked_name, merged_base, merged_name, whole_name};
+pub use names::{NameParts, name_of};
+pub use parse::parse_name;
