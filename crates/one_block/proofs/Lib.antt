@@ -1,2 +1,3 @@
 mod CalendarFacts
 mod JoinFacts
+mod NumeralFacts

@@ -11,3 +11,6 @@ mod read;
 pub use files::{bare_name, forked_name, merged_base, merged_name, whole_name};
 pub use names::{NameParts, name_of};
 pub use parse::parse_name;
+
+#[cfg(test)]
+mod tests;
