@@ -1,3 +1,4 @@
 mod CalendarFacts
 mod JoinFacts
 mod NumeralFacts
+mod MomentFacts

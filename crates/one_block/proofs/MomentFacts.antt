@@ -1,0 +1,181 @@
+-- The text of a moment is read as the moment, and what is read is its text.
+use Rattle.std.proofs.Common.{◌≡◌, ℕ, zero, suc, ◌+◌, ◌-◌, ◌*◌, ◌/◌, ◌%◌, ◌^◌, ◌<◌, ◌≤◌, Bool, true, false, ◌&&◌, cond, eqb, nat_lt, List, [], ◌∷◌, ◌++◌, length, take, drop, Option, None, Some, refl, sym, ap, subst, ◌∙◌, pos, arith, append_assoc}
+use Rattle.std.specs.Option.{option_map}
+use Rattle.std.specs.Fmt.{decimal}
+use Rattle.std.proofs.lemmas.Bool.{and_parts, ltb-true, ltb-false, lt-ltb, le-ltb, eqb-true, eq-eqb}
+use Rattle.std.proofs.lemmas.List.{take_at, drop_at, take-append-drop, length-append, nil_from_length, append-nil}
+use Rattle.std.proofs.lemmas.Fmt.{length-decimal-le}
+use Rattle.jiff_core.proofs.CalendarLemmas.{days_in_month_bounds}
+use Rattle.one_block.specs.declared.moments.CivilDay.{CivilDay}
+use Rattle.one_block.specs.declared.moments.ClockTime.{ClockTime}
+use Rattle.one_block.specs.declared.moments.Moment.{Moment}
+use Rattle.one_block.specs.Calendar.{is_day, day_after, day_number}
+use Rattle.one_block.specs.Moments.{is_clock, clock_of, clock_tenths, is_moment, moment_of, moment_tenths, day_text, clock_text, moment_text}
+use Rattle.one_block.specs.Numerals.{padded, filled_number}
+use Rattle.one_block.specs.Reading.{Field, digits_at, byte_at, day_at, clock_at, moment_named, tenths_named, ◌>>=◌}
+use Rattle.one_block.proofs.CalendarFacts.{IsGood, is_day-good, nth, number_nth, day_number-day_after, day_after-day_number}
+use Rattle.one_block.proofs.NumeralFacts.{length-padded, filled_number-padded, padded-filled_number}
+
+-- ---- one field
+
+-- a number of a few digits at the front
+digits_again : (width n : ℕ) (rest : List ℕ) → 0 < width → n < 10 ^ width → n < 2 ^ 64 → digits_at width (padded width n ++ rest) ≡ Some (n, rest)
+digits_again width n rest some few small =
+    let len = length-padded width n (length-decimal-le width n some few small) in
+    let enough : nat_lt (length (padded width n ++ rest)) width ≡ false = le-ltb _ _ (omega (arith, length-append (padded width n) rest, len)) in
+    rw (enough, take_at (padded width n) rest width len, drop_at (padded width n) rest width len, filled_number-padded width n small) refl
+
+byte_again : (b : ℕ) (rest : List ℕ) → byte_at b (b ∷ rest) ≡ Some rest
+byte_again b rest = let same = eq-eqb b b refl in rw same refl
+
+-- what a field took from the front, which has this text, and what it left
+some_is : {A : Type 0} (x y : A) → (let a : Option A = Some x in a) ≡ Some y → x ≡ y
+some_is x y e = cc e
+
+digits_take : (width : ℕ) (text : List ℕ) (x : ℕ × List ℕ) → digits_at width text ≡ Some x → text ≡ padded width x.0 ++ x.1
+digits_take width text x e = enough (nat_lt (length text) width) refl e
+  where
+    number : (o : Option ℕ) → filled_number width (take width text) ≡ o → option_map (λ (n : ℕ). (n, drop width text)) o ≡ Some x → text ≡ padded width x.0 ++ x.1
+    number None is e = absurd (cc e)
+    number (Some n) is e =
+        let same : (n, drop width text) ≡ x = some_is _ _ e in
+        let front = (padded-filled_number width (take width text) n is).1 in
+        subst (λ (y : ℕ × List ℕ). text ≡ padded width y.0 ++ y.1) same (sym (take-append-drop width text) ∙ ap (λ (l : List ℕ). l ++ drop width text) front)
+
+    enough : (t : Bool) → nat_lt (length text) width ≡ t → (let none : Option (ℕ × List ℕ) = None in cond t none (option_map (λ (n : ℕ). (n, drop width text)) (filled_number width (take width text)))) ≡ Some x → text ≡ padded width x.0 ++ x.1
+    enough true is e = absurd (cc e)
+    enough false is e = number (filled_number width (take width text)) refl e
+
+byte_take : (b : ℕ) (text rest : List ℕ) → byte_at b text ≡ Some rest → text ≡ b ∷ rest
+byte_take b [] rest e = absurd (cc e)
+byte_take b (x ∷ more) rest e = by_test (eqb x b) refl e
+  where
+    by_test : (t : Bool) → eqb x b ≡ t → (let none : Option (List ℕ) = None in cond t (Some more) none) ≡ Some rest → x ∷ more ≡ b ∷ rest
+    by_test false is e = absurd (cc e)
+    by_test true is e =
+        let first = eqb-true x b is in
+        let same : more ≡ rest = some_is more rest e in
+        rw (first, same) refl
+
+-- ---- one step after another
+
+step_is : {A B : Type 0} (o : Option A) (x : A) (f : A → Option B) → o ≡ Some x → (o >>= f) ≡ f x
+step_is o x f e = ap (λ o. o >>= f) e
+
+step_took : {A B : Type 0} (o : Option A) (f : A → Option B) (y : B) → (o >>= f) ≡ Some y → (x : A) × ((o ≡ Some x) × (f x ≡ Some y))
+step_took None f y e = absurd (cc e)
+step_took (Some x) f y e = (x, (refl, e))
+
+-- ---- days
+
+abbrev with_day : ℕ → ℕ → ℕ × List ℕ → Option (CivilDay × List ℕ)
+with_day year month day = Some (record { year = year; month = month; day = day.0 }, day.1)
+
+abbrev with_month : ℕ → ℕ × List ℕ → Option (CivilDay × List ℕ)
+with_month year month = digits_at 2 month.1 >>= with_day year month.0
+
+abbrev with_year : ℕ × List ℕ → Option (CivilDay × List ℕ)
+with_year year = digits_at 2 year.1 >>= with_month year.0
+
+day_again : (d : CivilDay) (rest : List ℕ) → IsGood d → day_at (day_text d ++ rest) ≡ Some (d, rest)
+unfolding day_at
+day_again d rest g =
+    let most = days_in_month_bounds (pos d.year) d.month in
+    let year_high = g.year_high in
+    let month_high = g.month_high in
+    let day_high = g.day_high in
+    let r2 : List ℕ = padded 2 d.day ++ rest in
+    let r1 : List ℕ = padded 2 d.month ++ r2 in
+    let apart : day_text d ++ rest ≡ padded 4 d.year ++ r1 = append_assoc (padded 4 d.year) (padded 2 d.month ++ padded 2 d.day) rest ∙ ap (λ (l : List ℕ). padded 4 d.year ++ l) (append_assoc (padded 2 d.month) (padded 2 d.day) rest) in
+    ap (λ (l : List ℕ). digits_at 4 l >>= with_year) apart
+    ∙ step_is (digits_at 4 (padded 4 d.year ++ r1)) (d.year, r1) with_year (digits_again 4 d.year r1 (omega arith) (omega arith) (omega arith))
+    ∙ step_is (digits_at 2 r1) (d.month, r2) (with_month d.year) (digits_again 2 d.month r2 (omega arith) (omega arith) (omega arith))
+    ∙ step_is (digits_at 2 r2) (d.day, rest) (with_day d.year d.month) (digits_again 2 d.day rest (omega arith) (omega arith) (omega arith))
+
+day_take : (text : List ℕ) (x : CivilDay × List ℕ) → day_at text ≡ Some x → text ≡ day_text x.0 ++ x.1
+unfolding day_at
+day_take text x e =
+    let year = step_took (digits_at 4 text) with_year x e in
+    let month = step_took (digits_at 2 year.0.1) (with_month year.0.0) x year.1.1 in
+    let day = step_took (digits_at 2 month.0.1) (with_day year.0.0 month.0.0) x month.1.1 in
+    let made : CivilDay × List ℕ = (record { year = year.0.0; month = month.0.0; day = day.0.0 }, day.0.1) in
+    let t1 = digits_take 4 text year.0 year.1.0 in
+    let t2 = digits_take 2 year.0.1 month.0 month.1.0 in
+    let t3 = digits_take 2 month.0.1 day.0 day.1.0 in
+    let text_is : text ≡ day_text made.0 ++ made.1 =
+        t1 ∙ ap (λ (l : List ℕ). padded 4 year.0.0 ++ l) (t2 ∙ ap (λ (l : List ℕ). padded 2 month.0.0 ++ l) t3 ∙ sym (append_assoc (padded 2 month.0.0) (padded 2 day.0.0) day.0.1))
+        ∙ sym (append_assoc (padded 4 year.0.0) (padded 2 month.0.0 ++ padded 2 day.0.0) day.0.1) in
+    subst (λ (y : CivilDay × List ℕ). text ≡ day_text y.0 ++ y.1) (some_is made x day.1.1) text_is
+
+-- ---- times of day
+
+-- what the test of a clock says
+record IsShown (c : ClockTime) : Type 0 where
+  hour : c.hour < 24
+  minute : c.minute < 60
+  second : c.second < 60
+  tenth : c.tenth < 10
+
+is_clock-shown : (c : ClockTime) → is_clock c ≡ true → IsShown c
+is_clock-shown c e =
+    let a = and_parts (nat_lt c.hour 24 && nat_lt c.minute 60 && nat_lt c.second 60) (nat_lt c.tenth 10) e in
+    let b = and_parts (nat_lt c.hour 24 && nat_lt c.minute 60) (nat_lt c.second 60) a.0 in
+    let d = and_parts (nat_lt c.hour 24) (nat_lt c.minute 60) b.0 in
+    record { hour = ltb-true _ _ d.0; minute = ltb-true _ _ d.1; second = ltb-true _ _ b.1; tenth = ltb-true _ _ a.1 }
+
+abbrev with_tenth : ℕ → ℕ → ℕ → ℕ × List ℕ → Option (ClockTime × List ℕ)
+with_tenth hour minute second tenth = Some (record { hour = hour; minute = minute; second = second; tenth = tenth.0 }, tenth.1)
+
+abbrev with_dot : ℕ → ℕ → ℕ → List ℕ → Option (ClockTime × List ℕ)
+with_dot hour minute second rest = digits_at 1 rest >>= with_tenth hour minute second
+
+abbrev with_second : ℕ → ℕ → ℕ × List ℕ → Option (ClockTime × List ℕ)
+with_second hour minute second = byte_at 46 second.1 >>= with_dot hour minute second.0
+
+abbrev with_minute : ℕ → ℕ × List ℕ → Option (ClockTime × List ℕ)
+with_minute hour minute = digits_at 2 minute.1 >>= with_second hour minute.0
+
+abbrev with_hour : ℕ × List ℕ → Option (ClockTime × List ℕ)
+with_hour hour = digits_at 2 hour.1 >>= with_minute hour.0
+
+-- the parts of a time's text, before more
+clock_apart : (hour minute second tenth rest : List ℕ) → (hour ++ (minute ++ (second ++ 46 ∷ tenth))) ++ rest ≡ hour ++ (minute ++ (second ++ 46 ∷ (tenth ++ rest)))
+clock_apart hour minute second tenth rest =
+    append_assoc hour (minute ++ (second ++ 46 ∷ tenth)) rest
+    ∙ ap (λ (l : List ℕ). hour ++ l) (append_assoc minute (second ++ 46 ∷ tenth) rest ∙ ap (λ (l : List ℕ). minute ++ l) (append_assoc second (46 ∷ tenth) rest))
+
+clock_again : (c : ClockTime) (rest : List ℕ) → IsShown c → clock_at (clock_text c ++ rest) ≡ Some (c, rest)
+unfolding clock_at
+clock_again c rest shown =
+    let h = shown.hour in
+    let m = shown.minute in
+    let s = shown.second in
+    let t = shown.tenth in
+    let r3 : List ℕ = padded 1 c.tenth ++ rest in
+    let r2 : List ℕ = padded 2 c.second ++ 46 ∷ r3 in
+    let r1 : List ℕ = padded 2 c.minute ++ r2 in
+    ap (λ (l : List ℕ). digits_at 2 l >>= with_hour) (clock_apart (padded 2 c.hour) (padded 2 c.minute) (padded 2 c.second) (padded 1 c.tenth) rest)
+    ∙ step_is (digits_at 2 (padded 2 c.hour ++ r1)) (c.hour, r1) with_hour (digits_again 2 c.hour r1 (omega arith) (omega arith) (omega arith))
+    ∙ step_is (digits_at 2 r1) (c.minute, r2) (with_minute c.hour) (digits_again 2 c.minute r2 (omega arith) (omega arith) (omega arith))
+    ∙ step_is (digits_at 2 r2) (c.second, 46 ∷ r3) (with_second c.hour c.minute) (digits_again 2 c.second (46 ∷ r3) (omega arith) (omega arith) (omega arith))
+    ∙ step_is (byte_at 46 (46 ∷ r3)) r3 (with_dot c.hour c.minute c.second) (byte_again 46 r3)
+    ∙ step_is (digits_at 1 r3) (c.tenth, rest) (with_tenth c.hour c.minute c.second) (digits_again 1 c.tenth rest (omega arith) (omega arith) (omega arith))
+
+clock_take : (text : List ℕ) (x : ClockTime × List ℕ) → clock_at text ≡ Some x → text ≡ clock_text x.0 ++ x.1
+unfolding clock_at
+clock_take text x e =
+    let hour = step_took (digits_at 2 text) with_hour x e in
+    let minute = step_took (digits_at 2 hour.0.1) (with_minute hour.0.0) x hour.1.1 in
+    let second = step_took (digits_at 2 minute.0.1) (with_second hour.0.0 minute.0.0) x minute.1.1 in
+    let dot = step_took (byte_at 46 second.0.1) (with_dot hour.0.0 minute.0.0 second.0.0) x second.1.1 in
+    let tenth = step_took (digits_at 1 dot.0) (with_tenth hour.0.0 minute.0.0 second.0.0) x dot.1.1 in
+    let made : ClockTime × List ℕ = (record { hour = hour.0.0; minute = minute.0.0; second = second.0.0; tenth = tenth.0.0 }, tenth.0.1) in
+    let t1 = digits_take 2 text hour.0 hour.1.0 in
+    let t2 = digits_take 2 hour.0.1 minute.0 minute.1.0 in
+    let t3 = digits_take 2 minute.0.1 second.0 second.1.0 in
+    let t4 = byte_take 46 second.0.1 dot.0 dot.1.0 in
+    let t5 = digits_take 1 dot.0 tenth.0 tenth.1.0 in
+    let parts : text ≡ padded 2 hour.0.0 ++ (padded 2 minute.0.0 ++ (padded 2 second.0.0 ++ 46 ∷ (padded 1 tenth.0.0 ++ tenth.0.1))) =
+        t1 ∙ ap (λ (l : List ℕ). padded 2 hour.0.0 ++ l) (t2 ∙ ap (λ (l : List ℕ). padded 2 minute.0.0 ++ l) (t3 ∙ ap (λ (l : List ℕ). padded 2 second.0.0 ++ l) (t4 ∙ ap (λ (l : List ℕ). 46 ∷ l) t5))) in
+    let text_is : text ≡ clock_text made.0 ++ made.1 = parts ∙ sym (clock_apart (padded 2 hour.0.0) (padded 2 minute.0.0) (padded 2 second.0.0) (padded 1 tenth.0.0) tenth.0.1) in
+    subst (λ (y : ClockTime × List ℕ). text ≡ clock_text y.0 ++ y.1) (some_is made x tenth.1.1) text_is
