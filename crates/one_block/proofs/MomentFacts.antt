@@ -179,3 +179,88 @@ clock_take text x e =
         t1 ∙ ap (λ (l : List ℕ). padded 2 hour.0.0 ++ l) (t2 ∙ ap (λ (l : List ℕ). padded 2 minute.0.0 ++ l) (t3 ∙ ap (λ (l : List ℕ). padded 2 second.0.0 ++ l) (t4 ∙ ap (λ (l : List ℕ). 46 ∷ l) t5))) in
     let text_is : text ≡ clock_text made.0 ++ made.1 = parts ∙ sym (clock_apart (padded 2 hour.0.0) (padded 2 minute.0.0) (padded 2 second.0.0) (padded 1 tenth.0.0) tenth.0.1) in
     subst (λ (y : ClockTime × List ℕ). text ≡ clock_text y.0 ++ y.1) (some_is made x tenth.1.1) text_is
+
+-- ---- moments
+
+-- a moment at the end of its text, where the calendar has it
+abbrev at_end : Moment → List ℕ → Option Moment
+at_end m rest = cond (eqb (length rest) 0 && is_moment m) (Some m) None
+
+abbrev with_clock : CivilDay → ClockTime × List ℕ → Option Moment
+with_clock day clock = let m : Moment = record { day = day; clock = clock.0 } in at_end m clock.1
+
+abbrev with_mark : CivilDay → List ℕ → Option Moment
+with_mark day rest = clock_at rest >>= with_clock day
+
+abbrev with_date : CivilDay × List ℕ → Option Moment
+with_date day = byte_at 84 day.1 >>= with_mark day.0
+
+-- the text of a moment is read as the moment
+pub moment_named-moment_text : (m : Moment) → is_moment m ≡ true → moment_named (moment_text m) ≡ Some m
+unfolding moment_named
+moment_named-moment_text m good =
+    let both = and_parts (is_day m.day) (is_clock m.clock) good in
+    let none : List ℕ = [] in
+    let rest : List ℕ = clock_text m.clock in
+    let clock : clock_at (clock_text m.clock) ≡ Some (m.clock, none) = ap clock_at (sym (append-nil (clock_text m.clock))) ∙ clock_again m.clock none (is_clock-shown m.clock both.1) in
+    let last : with_clock m.day (m.clock, none) ≡ Some m = rw good refl in
+    step_is (day_at (moment_text m)) (m.day, 84 ∷ rest) with_date (day_again m.day (84 ∷ rest) (is_day-good m.day both.0))
+    ∙ step_is (byte_at 84 (84 ∷ rest)) rest (with_mark m.day) (byte_again 84 rest)
+    ∙ step_is (clock_at rest) (m.clock, none) (with_clock m.day) clock
+    ∙ last
+
+-- a text that is read as a moment is its text
+pub moment_text-moment_named : (text : List ℕ) (m : Moment) → moment_named text ≡ Some m → (is_moment m ≡ true) × (text ≡ moment_text m)
+unfolding moment_named
+moment_text-moment_named text m e =
+    let day = step_took (day_at text) with_date m e in
+    let mark = step_took (byte_at 84 day.0.1) (with_mark day.0.0) m day.1.1 in
+    let clock = step_took (clock_at mark.0) (with_clock day.0.0) m mark.1.1 in
+    let t1 = day_take text day.0 day.1.0 in
+    let t2 = byte_take 84 day.0.1 mark.0 mark.1.0 in
+    let t3 = clock_take mark.0 clock.0 clock.1.0 in
+    let made : Moment = record { day = day.0.0; clock = clock.0.0 } in
+    let end = ended made clock.0.1 clock.1.1 in
+    let text_is : text ≡ moment_text made =
+        t1 ∙ ap (λ (l : List ℕ). day_text day.0.0 ++ l) (t2 ∙ ap (λ (l : List ℕ). 84 ∷ l) (t3 ∙ ap (λ (l : List ℕ). clock_text clock.0.0 ++ l) end.0 ∙ append-nil (clock_text clock.0.0))) in
+    subst (λ (x : Moment). (is_moment x ≡ true) × (text ≡ moment_text x)) end.2 (end.1, text_is)
+  where
+    ended : (x : Moment) (rest : List ℕ) → at_end x rest ≡ Some m → (rest ≡ []) × (is_moment x ≡ true) × (x ≡ m)
+    ended x rest e = by_test (eqb (length rest) 0 && is_moment x) refl e
+      where
+        by_test : (t : Bool) → (eqb (length rest) 0 && is_moment x) ≡ t → (let none : Option Moment = None in cond t (Some x) none) ≡ Some m → (rest ≡ []) × (is_moment x ≡ true) × (x ≡ m)
+        by_test false is e = absurd (cc e)
+        by_test true is e =
+            let both = and_parts (eqb (length rest) 0) (is_moment x) is in
+            (nil_from_length rest (eqb-true (length rest) 0 both.0), both.1, some_is x m e)
+
+-- ---- moments by tenths of seconds
+
+clock_of_good : (t : ℕ) → t < 864_000 → is_clock (clock_of t) ≡ true
+clock_of_good t small =
+    let hour : nat_lt (t / 36_000) 24 ≡ true = lt-ltb _ _ (omega arith) in
+    let minute : nat_lt (t / 600 % 60) 60 ≡ true = lt-ltb _ _ (omega arith) in
+    let second : nat_lt (t / 10 % 60) 60 ≡ true = lt-ltb _ _ (omega arith) in
+    let tenth : nat_lt (t % 10) 10 ≡ true = lt-ltb _ _ (omega arith) in
+    rw (hour, minute, second, tenth) refl
+
+clock_tenths-clock_of : (t : ℕ) → clock_tenths (clock_of t) ≡ t
+clock_tenths-clock_of t = omega arith
+
+clock_tenths-lt : (c : ClockTime) → IsShown c → clock_tenths c < 864_000
+clock_tenths-lt c shown =
+    let h = shown.hour in
+    let m = shown.minute in
+    let s = shown.second in
+    let t = shown.tenth in
+    omega arith
+
+clock_of-clock_tenths : (h m s t : ℕ) → h < 24 → m < 60 → s < 60 → t < 10
+    → (let c : ClockTime = record { hour = h; minute = m; second = s; tenth = t } in clock_of (clock_tenths c) ≡ c)
+clock_of-clock_tenths h m s t small_h small_m small_s small_t =
+    let n : ℕ = ((h * 60 + m) * 60 + s) * 10 + t in
+    let hour : n / 36_000 ≡ h = omega arith in
+    let minute : n / 600 % 60 ≡ m = omega arith in
+    let second : n / 10 % 60 ≡ s = omega arith in
+    let tenth : n % 10 ≡ t = omega arith in
+    λ i. record { hour = hour i; minute = minute i; second = second i; tenth = tenth i }
