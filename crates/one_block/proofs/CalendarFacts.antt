@@ -2,7 +2,7 @@
 use Rattle.std.proofs.Common.{◌≡◌, ℕ, zero, suc, ◌+◌, ◌<◌, ◌≤◌, Bool, true, false, ◌&&◌, cond, nat_lt, nat_le, ◌⊎◌, inl, inr, refl, sym, ap, subst, ◌∙◌, arith, rules, ℤ, pos, negsuc, neg_ℤ, ◌+ℤ◌, ◌<ℤ◌, ◌≤ℤ◌, unsigned_abs, IsTrue, to_z, of_z}
 use Rattle.std.specs.Int.{w8, w16, w32}
 use Rattle.std.proofs.lemmas.Int.{to_z_pos}
-use Rattle.std.proofs.lemmas.Bool.{and_parts, ltb-true, ltb-false, leb-true}
+use Rattle.std.proofs.lemmas.Bool.{and_parts, ltb-true, ltb-false, leb-true, le-leb}
 use Rattle.jiff_core.specs.declared.civil.date.Date.{Date}
 use Rattle.jiff_core.specs.Calendar.{days_in_month, days_from_civil}
 use Rattle.jiff_core.specs.Date.{epoch_day}
@@ -36,6 +36,16 @@ is_day-good d e =
       day_low = leb-true _ _ b.1;
       day_high = leb-true _ _ a.1;
     }
+
+pub good-is_day : (d : CivilDay) → IsGood d → is_day d ≡ true
+good-is_day d g =
+    let a = le-leb _ _ g.year_low in
+    let b = le-leb _ _ g.year_high in
+    let c = le-leb _ _ g.month_low in
+    let e = le-leb _ _ g.month_high in
+    let f = le-leb _ _ g.day_low in
+    let h = le-leb _ _ g.day_high in
+    rw (a, b, c, e, f, h) refl
 
 -- the same as a date of the calendar's crate
 date_of : (d : CivilDay) → IsGood d → Date

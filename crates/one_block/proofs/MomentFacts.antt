@@ -13,7 +13,7 @@ use Rattle.one_block.specs.Calendar.{is_day, day_after, day_number}
 use Rattle.one_block.specs.Moments.{is_clock, clock_of, clock_tenths, is_moment, moment_of, moment_tenths, day_text, clock_text, moment_text}
 use Rattle.one_block.specs.Numerals.{padded, filled_number}
 use Rattle.one_block.specs.Reading.{Field, digits_at, byte_at, day_at, clock_at, moment_named, tenths_named, ◌>>=◌}
-use Rattle.one_block.proofs.CalendarFacts.{IsGood, is_day-good, nth, number_nth, day_number-day_after, day_after-day_number}
+use Rattle.one_block.proofs.CalendarFacts.{IsGood, is_day-good, good-is_day, nth, number_nth, day_number-day_after, day_after-day_number}
 use Rattle.one_block.proofs.NumeralFacts.{length-padded, filled_number-padded, padded-filled_number}
 
 -- ---- one field
@@ -264,3 +264,61 @@ clock_of-clock_tenths h m s t small_h small_m small_s small_t =
     let second : n / 10 % 60 ≡ s = omega arith in
     let tenth : n % 10 ≡ t = omega arith in
     λ i. record { hour = hour i; minute = minute i; second = second i; tenth = tenth i }
+
+-- how many tenths of seconds there are to the end of the year 9999
+abbrev pub IsTimely : ℕ → Type 0
+IsTimely t = t < 2_534_023_008_000
+
+day_of_tenths : (t : ℕ) → IsTimely t → t / 864_000 ≤ 2_932_896
+day_of_tenths t small = omega arith
+
+is_moment-moment_of : (t : ℕ) → IsTimely t → is_moment (moment_of t) ≡ true
+is_moment-moment_of t small =
+    let day : is_day (day_after (t / 864_000)) ≡ true = good-is_day (day_after (t / 864_000)) (nth (t / 864_000) (day_of_tenths t small)).good in
+    let clock : is_clock (clock_of (t % 864_000)) ≡ true = clock_of_good (t % 864_000) (omega arith) in
+    rw (day, clock) refl
+
+moment_tenths-moment_of : (t : ℕ) → IsTimely t → moment_tenths (moment_of t) ≡ t
+moment_tenths-moment_of t small =
+    let day = day_number-day_after (t / 864_000) (day_of_tenths t small) in
+    let clock = clock_tenths-clock_of (t % 864_000) in
+    rw (day, clock) (omega arith)
+
+moment_tenths-timely : (m : Moment) → is_moment m ≡ true → IsTimely (moment_tenths m)
+moment_tenths-timely m good =
+    let both = and_parts (is_day m.day) (is_clock m.clock) good in
+    let day = (number_nth m.day (is_day-good m.day both.0)).1 in
+    let clock = clock_tenths-lt m.clock (is_clock-shown m.clock both.1) in
+    sum_of (day_number m.day) (clock_tenths m.clock) day clock
+  where
+    sum_of : (n c : ℕ) → n ≤ 2_932_896 → c < 864_000 → n * 864_000 + c < 2_534_023_008_000
+    sum_of n c day clock = omega arith
+
+moment_of-moment_tenths : (m : Moment) → is_moment m ≡ true → moment_of (moment_tenths m) ≡ m
+moment_of-moment_tenths m good =
+    let both = and_parts (is_day m.day) (is_clock m.clock) good in
+    let shown = is_clock-shown m.clock both.1 in
+    let clock = clock_tenths-lt m.clock shown in
+    let days = parts_of (day_number m.day) (clock_tenths m.clock) clock in
+    let day : day_after (moment_tenths m / 864_000) ≡ m.day = ap day_after days.0 ∙ day_after-day_number m.day (is_day-good m.day both.0) in
+    let time : clock_of (moment_tenths m % 864_000) ≡ m.clock = ap clock_of days.1 ∙ clock_of-clock_tenths m.clock.hour m.clock.minute m.clock.second m.clock.tenth shown.hour shown.minute shown.second shown.tenth in
+    λ i. record { day = day i; clock = time i }
+  where
+    parts_of : (n c : ℕ) → c < 864_000 → ((n * 864_000 + c) / 864_000 ≡ n) × ((n * 864_000 + c) % 864_000 ≡ c)
+    parts_of n c clock = (omega arith, omega arith)
+
+-- the text of a moment is read as its tenths of seconds, and a text that is read is the moment's
+pub tenths_named-moment_text : (t : ℕ) → IsTimely t → tenths_named (moment_text (moment_of t)) ≡ Some t
+tenths_named-moment_text t small =
+    ap (option_map moment_tenths) (moment_named-moment_text (moment_of t) (is_moment-moment_of t small)) ∙ ap Some (moment_tenths-moment_of t small)
+
+pub moment_text-tenths_named : (text : List ℕ) (t : ℕ) → tenths_named text ≡ Some t → IsTimely t × (text ≡ moment_text (moment_of t))
+moment_text-tenths_named text t e = by_moment (moment_named text) refl e
+  where
+    by_moment : (o : Option Moment) → moment_named text ≡ o → option_map moment_tenths o ≡ Some t → IsTimely t × (text ≡ moment_text (moment_of t))
+    by_moment None is e = absurd (cc e)
+    by_moment (Some m) is e =
+        let read = moment_text-moment_named text m is in
+        let same : moment_tenths m ≡ t = some_is (moment_tenths m) t e in
+        let back : moment_text m ≡ moment_text (moment_of (moment_tenths m)) = ap moment_text (sym (moment_of-moment_tenths m read.0)) in
+        subst (λ (n : ℕ). IsTimely n × (text ≡ moment_text (moment_of n))) same (moment_tenths-timely m read.0, read.1 ∙ back)
