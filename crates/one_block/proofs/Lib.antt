@@ -2,3 +2,4 @@ mod CalendarFacts
 mod JoinFacts
 mod NumeralFacts
 mod MomentFacts
+mod NameFacts

@@ -10,7 +10,7 @@ use Rattle.one_block.specs.declared.moments.CivilDay.{CivilDay}
 use Rattle.one_block.specs.declared.moments.ClockTime.{ClockTime}
 use Rattle.one_block.specs.declared.moments.Moment.{Moment}
 use Rattle.one_block.specs.Calendar.{is_day, day_after, day_number}
-use Rattle.one_block.specs.Moments.{is_clock, clock_of, clock_tenths, is_moment, moment_of, moment_tenths, day_text, clock_text, moment_text}
+use Rattle.one_block.specs.Moments.{is_clock, clock_of, clock_tenths, is_moment, moment_of, moment_tenths, IsTimely, day_text, clock_text, moment_text}
 use Rattle.one_block.specs.Numerals.{padded, filled_number}
 use Rattle.one_block.specs.Reading.{Field, digits_at, byte_at, day_at, clock_at, moment_named, tenths_named, ◌>>=◌}
 use Rattle.one_block.proofs.CalendarFacts.{IsGood, is_day-good, good-is_day, nth, number_nth, day_number-day_after, day_after-day_number}
@@ -29,7 +29,7 @@ byte_again : (b : ℕ) (rest : List ℕ) → byte_at b (b ∷ rest) ≡ Some res
 byte_again b rest = let same = eq-eqb b b refl in rw same refl
 
 -- what a field took from the front, which has this text, and what it left
-some_is : {A : Type 0} (x y : A) → (let a : Option A = Some x in a) ≡ Some y → x ≡ y
+pub some_is : {A : Type 0} (x y : A) → (let a : Option A = Some x in a) ≡ Some y → x ≡ y
 some_is x y e = cc e
 
 digits_take : (width : ℕ) (text : List ℕ) (x : ℕ × List ℕ) → digits_at width text ≡ Some x → text ≡ padded width x.0 ++ x.1
@@ -59,10 +59,10 @@ byte_take b (x ∷ more) rest e = by_test (eqb x b) refl e
 
 -- ---- one step after another
 
-step_is : {A B : Type 0} (o : Option A) (x : A) (f : A → Option B) → o ≡ Some x → (o >>= f) ≡ f x
+pub step_is : {A B : Type 0} (o : Option A) (x : A) (f : A → Option B) → o ≡ Some x → (o >>= f) ≡ f x
 step_is o x f e = ap (λ o. o >>= f) e
 
-step_took : {A B : Type 0} (o : Option A) (f : A → Option B) (y : B) → (o >>= f) ≡ Some y → (x : A) × ((o ≡ Some x) × (f x ≡ Some y))
+pub step_took : {A B : Type 0} (o : Option A) (f : A → Option B) (y : B) → (o >>= f) ≡ Some y → (x : A) × ((o ≡ Some x) × (f x ≡ Some y))
 step_took None f y e = absurd (cc e)
 step_took (Some x) f y e = (x, (refl, e))
 
@@ -265,10 +265,6 @@ clock_of-clock_tenths h m s t small_h small_m small_s small_t =
     let tenth : n % 10 ≡ t = omega arith in
     λ i. record { hour = hour i; minute = minute i; second = second i; tenth = tenth i }
 
--- how many tenths of seconds there are to the end of the year 9999
-abbrev pub IsTimely : ℕ → Type 0
-IsTimely t = t < 2_534_023_008_000
-
 day_of_tenths : (t : ℕ) → IsTimely t → t / 864_000 ≤ 2_932_896
 day_of_tenths t small = omega arith
 
@@ -322,3 +318,31 @@ moment_text-tenths_named text t e = by_moment (moment_named text) refl e
         let same : moment_tenths m ≡ t = some_is (moment_tenths m) t e in
         let back : moment_text m ≡ moment_text (moment_of (moment_tenths m)) = ap moment_text (sym (moment_of-moment_tenths m read.0)) in
         subst (λ (n : ℕ). IsTimely n × (text ≡ moment_text (moment_of n))) same (moment_tenths-timely m read.0, read.1 ∙ back)
+
+-- the numbers that a moment's text has
+pub record SmallParts (m : Moment) : Type 0 where
+  pub year : m.day.year < 2 ^ 64
+  pub month : m.day.month < 2 ^ 64
+  pub day : m.day.day < 2 ^ 64
+  pub hour : m.clock.hour < 2 ^ 64
+  pub minute : m.clock.minute < 2 ^ 64
+  pub second : m.clock.second < 2 ^ 64
+  pub tenth : m.clock.tenth < 2 ^ 64
+
+pub small_parts : (t : ℕ) → IsTimely t → SmallParts (moment_of t)
+small_parts t timely =
+    let g = (nth (t / 864_000) (day_of_tenths t timely)).good in
+    let d : CivilDay = day_after (t / 864_000) in
+    let most = days_in_month_bounds (pos d.year) d.month in
+    let year_high = g.year_high in
+    let month_high = g.month_high in
+    let day_high = g.day_high in
+    record {
+      year = omega arith;
+      month = omega arith;
+      day = omega arith;
+      hour = omega arith;
+      minute = omega arith;
+      second = omega arith;
+      tenth = omega arith;
+    }

@@ -5,3 +5,4 @@ pub mod Names
 pub mod Reading
 pub mod Seen
 pub mod Files
+pub mod Laws

@@ -1,5 +1,5 @@
 -- Moments in UTC, to a tenth of a second, and their texts.
-use Rattle.std.specs.Prelude.{ℕ, ◌+◌, ◌*◌, ◌/◌, ◌%◌, Bool, ◌&&◌, nat_lt, List, ◌∷◌, ◌++◌}
+use Rattle.std.specs.Prelude.{ℕ, ◌+◌, ◌*◌, ◌/◌, ◌%◌, ◌<◌, Bool, ◌&&◌, nat_lt, List, ◌∷◌, ◌++◌}
 use Rattle.one_block.specs.declared.moments.CivilDay.{CivilDay}
 use Rattle.one_block.specs.declared.moments.ClockTime.{ClockTime}
 use Rattle.one_block.specs.declared.moments.Moment.{Moment}
@@ -29,6 +29,10 @@ moment_of t = record { day = day_after (t / 864_000); clock = clock_of (t % 864_
 -- how many tenths of seconds a moment comes after 1970 began
 abbrev pub moment_tenths : Moment → ℕ
 moment_tenths m = day_number m.day * 864_000 + clock_tenths m.clock
+
+-- a number of tenths of seconds before the end of the year 9999
+abbrev pub IsTimely : ℕ → Type 0
+IsTimely t = t < 2_534_023_008_000
 
 -- YYYYMMDD
 abbrev pub day_text : CivilDay → List ℕ

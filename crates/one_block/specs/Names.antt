@@ -1,12 +1,12 @@
 -- The one name of a block's file, and which texts are such names.
-use Rattle.std.specs.Prelude.{ℕ, ◌≤◌, ◌<◌, ◌^◌, ◌-◌, ◌/◌, ◌==◌, ◌&&◌, nat_le, Bool, IsTrue, List, [], ◌∷◌, length, drop, Option, None, Some, slice_get, option_and_then, if◌then◌else◌}
+use Rattle.std.specs.Prelude.{ℕ, ◌<◌, ◌^◌, ◌-◌, ◌/◌, ◌==◌, ◌&&◌, nat_le, Bool, IsTrue, List, [], ◌∷◌, length, drop, Option, None, Some, slice_get, option_and_then, if◌then◌else◌}
 use Rattle.std.specs.Fmt.{decimal}
 use Rattle.std.specs.List.{slice_split, join_with_byte}
 use Rattle.block_record.specs.declared.blocks.Slip.{Slip}
 use Rattle.block_record.specs.Number.{number_of}
 use Rattle.block_record.specs.Texts.{is_id_text, is_reader_text, IsId, IsReaderName}
 use Rattle.one_block.specs.declared.names.NameParts.{NameParts}
-use Rattle.one_block.specs.Moments.{moment_of, moment_text}
+use Rattle.one_block.specs.Moments.{IsTimely, moment_of, moment_text}
 use Rattle.one_block.specs.Numerals.{padded, filled_number}
 use Rattle.one_block.specs.Reading.{tenths_named, ◌>>=◌}
 
@@ -65,3 +65,21 @@ parts_named ws = do
 -- the parts of a name, and none where the text is no name
 abbrev pub name_parts : List ℕ → Option NameParts
 name_parts text = parts_named (slice_split (λ b. b == 45) text)
+
+-- what the parts of a name are
+pub record IsName (p : NameParts) : Type 0 where
+  pub num : p.num < 2 ^ 64
+  pub tenths : IsTimely p.tenths
+  pub id_end : IsTrue (is_id_end p.id_end)
+  pub parent_end : IsTrue (is_id_end p.parent_end)
+  pub lib_num : p.lib_num < 2 ^ 64
+  pub reader : IsReaderName p.reader
+
+-- what each slip and each reader of the code has, and those of a contract may lack
+pub record IsNamed (s : Slip) (by : List ℕ) : Type 0 where
+  pub num : s.num < 2 ^ 64
+  pub time : s.time < 2 ^ 64
+  pub id : IsId s.id
+  pub parent_id : IsId s.parent_id
+  pub lib_num : s.lib_num < 2 ^ 64
+  pub reader : IsReaderName by

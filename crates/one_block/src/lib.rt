@@ -2,6 +2,7 @@
 #![tactic(auto)]
 
 mod files;
+mod laws;
 mod moments;
 mod names;
 mod parse;
@@ -9,6 +10,7 @@ mod print;
 mod read;
 
 pub use files::{bare_name, forked_name, merged_base, merged_name, whole_name};
+pub use laws::{files_are_read, names_are_read};
 pub use names::{NameParts, name_of};
 pub use parse::parse_name;
 
