@@ -3,3 +3,4 @@ mod JoinFacts
 mod NumeralFacts
 mod MomentFacts
 mod NameFacts
+mod FileFacts

@@ -2,7 +2,7 @@
 
 ghost use Rattle.std.specs.Prelude.{◌≡◌, ◌++◌, ◌∷◌, IfOk, OnOk};
 ghost use Rattle.std.specs.Fmt.{decimal};
-ghost use Rattle.one_block.specs.Names.{id_end as end_of_id, one_block_name};
+ghost use Rattle.one_block.specs.Names.{id_end as end_of_id, one_block_name, IsNamed};
 
 use crate::moments::moment_of;
 use crate::print::{push_moment, push_number, push_padded};
@@ -28,7 +28,8 @@ pub struct NameParts {
 /// The name of the file that the reader writes for the block, without folder and ending. Its time is
 /// cut to tenths of seconds.
 pub fn name_of(alloc: Global, slip: &Slip, reader: &ReaderName) -> Result<FileName, AllocError>
-    ensures { IfOk result (λ name. name ≡ one_block_name slip.now reader.now) }
+    ensures text { IfOk result (λ name. name ≡ one_block_name slip.now reader.now) }
+    ensures named { OnOk result (IsNamed slip.now reader.now) }
 {
     let mut text = Vec::new(alloc);
     push_padded(10, slip.num, &mut text)?;
