@@ -1,2 +1,5 @@
 pub mod Fronts
 pub mod TakenFacts
+pub mod FileFacts
+pub mod NameOrder
+pub mod ShelfFacts

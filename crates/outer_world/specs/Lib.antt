@@ -1,3 +1,5 @@
 pub mod Causes
 pub mod Told
 pub mod Stops
+pub mod Files
+pub mod Shelves

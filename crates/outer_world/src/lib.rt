@@ -2,12 +2,16 @@
 #![tactic(auto)]
 
 mod calls;
+mod files;
 mod names;
+mod shelves;
 mod traits;
 
 pub use calls::{ReadStop, TEXT_BYTES_MAX, read_whole, write_whole};
+pub use files::{read_file, write_file};
 pub use names::FileName;
-pub use traits::{Failed, NoShelf, Shelf, Sink, Source};
+pub use shelves::{Shelf, ShelfFail};
+pub use traits::{Failed, Sink, Source};
 
 #[cfg(test)]
 mod tests;

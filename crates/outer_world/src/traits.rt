@@ -1,4 +1,4 @@
-//! Where bytes come from, where they go, and where files are kept.
+//! Where bytes come from, and where they go.
 
 ghost use Rattle.std.specs.Prelude.{List, ℕ, Option};
 ghost use Rattle.std.specs.Io.{ReadsAtMost, WritesAtMost};
@@ -44,12 +44,3 @@ pub trait Sink {
         ensures written { WriteGrows (written self.old) (written self.new) result piece.now }
         ensures cause { HasCause (write_faults self.old) (write_faults self.new) result };
 }
-
-/// Where files are kept. It has no calls yet.
-pub trait Shelf {}
-
-/// A shelf that keeps no file.
-#[derive(Clone, Copy, Debug, PartialEq, Eq)]
-pub struct NoShelf;
-
-impl Shelf for NoShelf {}
