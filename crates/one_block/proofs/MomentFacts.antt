@@ -1,8 +1,7 @@
 -- The text of a moment is read as the moment, and what is read is its text.
-use Rattle.std.proofs.Common.{◌≡◌, ℕ, zero, suc, ◌+◌, ◌-◌, ◌*◌, ◌/◌, ◌%◌, ◌^◌, ◌<◌, ◌≤◌, Bool, true, false, ◌&&◌, cond, eqb, nat_lt, List, [], ◌∷◌, ◌++◌, length, take, drop, Option, None, Some, refl, sym, ap, subst, ◌∙◌, pos, arith, append_assoc}
+use Rattle.std.proofs.Common.{◌≡◌, ℕ, ◌+◌, ◌*◌, ◌/◌, ◌%◌, ◌^◌, ◌<◌, ◌≤◌, Bool, true, false, ◌&&◌, cond, eqb, nat_lt, List, [], ◌∷◌, ◌++◌, length, take, drop, Option, None, Some, refl, sym, ap, subst, ◌∙◌, pos, arith, append_assoc}
 use Rattle.std.specs.Option.{option_map}
-use Rattle.std.specs.Fmt.{decimal}
-use Rattle.std.proofs.lemmas.Bool.{and_parts, ltb-true, ltb-false, lt-ltb, le-ltb, eqb-true, eq-eqb}
+use Rattle.std.proofs.lemmas.Bool.{and_parts, ltb-true, lt-ltb, le-ltb, eqb-true, eq-eqb}
 use Rattle.std.proofs.lemmas.List.{take_at, drop_at, take-append-drop, length-append, nil_from_length, append-nil}
 use Rattle.std.proofs.lemmas.Fmt.{length-decimal-le}
 use Rattle.jiff_core.proofs.CalendarLemmas.{days_in_month_bounds}
@@ -12,7 +11,7 @@ use Rattle.one_block.specs.declared.moments.Moment.{Moment}
 use Rattle.one_block.specs.Calendar.{is_day, day_after, day_number}
 use Rattle.one_block.specs.Moments.{is_clock, clock_of, clock_tenths, is_moment, moment_of, moment_tenths, IsTimely, day_text, clock_text, moment_text}
 use Rattle.one_block.specs.Numerals.{padded, filled_number}
-use Rattle.one_block.specs.Reading.{Field, digits_at, byte_at, day_at, clock_at, moment_named, tenths_named, ◌>>=◌}
+use Rattle.one_block.specs.Reading.{digits_at, byte_at, day_at, clock_at, moment_named, tenths_named, ◌>>=◌}
 use Rattle.one_block.proofs.CalendarFacts.{IsGood, is_day-good, good-is_day, nth, number_nth, day_number-day_after, day_after-day_number}
 use Rattle.one_block.proofs.NumeralFacts.{length-padded, filled_number-padded, padded-filled_number}
 
@@ -103,8 +102,8 @@ day_take text x e =
     let t2 = digits_take 2 year.0.1 month.0 month.1.0 in
     let t3 = digits_take 2 month.0.1 day.0 day.1.0 in
     let text_is : text ≡ day_text made.0 ++ made.1 =
-        t1 ∙ ap (λ (l : List ℕ). padded 4 year.0.0 ++ l) (t2 ∙ ap (λ (l : List ℕ). padded 2 month.0.0 ++ l) t3 ∙ sym (append_assoc (padded 2 month.0.0) (padded 2 day.0.0) day.0.1))
-        ∙ sym (append_assoc (padded 4 year.0.0) (padded 2 month.0.0 ++ padded 2 day.0.0) day.0.1) in
+    t1 ∙ ap (λ (l : List ℕ). padded 4 year.0.0 ++ l) (t2 ∙ ap (λ (l : List ℕ). padded 2 month.0.0 ++ l) t3 ∙ sym (append_assoc (padded 2 month.0.0) (padded 2 day.0.0) day.0.1))
+    ∙ sym (append_assoc (padded 4 year.0.0) (padded 2 month.0.0 ++ padded 2 day.0.0) day.0.1) in
     subst (λ (y : CivilDay × List ℕ). text ≡ day_text y.0 ++ y.1) (some_is made x day.1.1) text_is
 
 -- ---- times of day
@@ -176,7 +175,7 @@ clock_take text x e =
     let t4 = byte_take 46 second.0.1 dot.0 dot.1.0 in
     let t5 = digits_take 1 dot.0 tenth.0 tenth.1.0 in
     let parts : text ≡ padded 2 hour.0.0 ++ (padded 2 minute.0.0 ++ (padded 2 second.0.0 ++ 46 ∷ (padded 1 tenth.0.0 ++ tenth.0.1))) =
-        t1 ∙ ap (λ (l : List ℕ). padded 2 hour.0.0 ++ l) (t2 ∙ ap (λ (l : List ℕ). padded 2 minute.0.0 ++ l) (t3 ∙ ap (λ (l : List ℕ). padded 2 second.0.0 ++ l) (t4 ∙ ap (λ (l : List ℕ). 46 ∷ l) t5))) in
+    t1 ∙ ap (λ (l : List ℕ). padded 2 hour.0.0 ++ l) (t2 ∙ ap (λ (l : List ℕ). padded 2 minute.0.0 ++ l) (t3 ∙ ap (λ (l : List ℕ). padded 2 second.0.0 ++ l) (t4 ∙ ap (λ (l : List ℕ). 46 ∷ l) t5))) in
     let text_is : text ≡ clock_text made.0 ++ made.1 = parts ∙ sym (clock_apart (padded 2 hour.0.0) (padded 2 minute.0.0) (padded 2 second.0.0) (padded 1 tenth.0.0) tenth.0.1) in
     subst (λ (y : ClockTime × List ℕ). text ≡ clock_text y.0 ++ y.1) (some_is made x tenth.1.1) text_is
 
@@ -222,7 +221,7 @@ moment_text-moment_named text m e =
     let made : Moment = record { day = day.0.0; clock = clock.0.0 } in
     let end = ended made clock.0.1 clock.1.1 in
     let text_is : text ≡ moment_text made =
-        t1 ∙ ap (λ (l : List ℕ). day_text day.0.0 ++ l) (t2 ∙ ap (λ (l : List ℕ). 84 ∷ l) (t3 ∙ ap (λ (l : List ℕ). clock_text clock.0.0 ++ l) end.0 ∙ append-nil (clock_text clock.0.0))) in
+    t1 ∙ ap (λ (l : List ℕ). day_text day.0.0 ++ l) (t2 ∙ ap (λ (l : List ℕ). 84 ∷ l) (t3 ∙ ap (λ (l : List ℕ). clock_text clock.0.0 ++ l) end.0 ∙ append-nil (clock_text clock.0.0))) in
     subst (λ (x : Moment). (is_moment x ≡ true) × (text ≡ moment_text x)) end.2 (end.1, text_is)
   where
     ended : (x : Moment) (rest : List ℕ) → at_end x rest ≡ Some m → (rest ≡ []) × (is_moment x ≡ true) × (x ≡ m)

@@ -1,12 +1,12 @@
 -- The name with some parts is read as the parts, and a text that is read is the name with its parts.
-use Rattle.std.proofs.Common.{◌≡◌, ℕ, zero, suc, ◌+◌, ◌-◌, ◌*◌, ◌/◌, ◌%◌, ◌^◌, ◌<◌, ◌≤◌, Bool, true, false, ◌&&◌, cond, eqb, nat_lt, nat_le, List, [], ◌∷◌, ◌++◌, length, drop, replicate, Option, None, Some, refl, sym, ap, subst, ◌∙◌, arith, option_and_then}
+use Rattle.std.proofs.Common.{◌≡◌, ℕ, zero, suc, ◌-◌, ◌^◌, ◌<◌, Bool, true, false, ◌&&◌, cond, eqb, nat_lt, nat_le, List, [], ◌∷◌, ◌++◌, length, drop, replicate, Option, None, Some, refl, sym, ap, subst, ◌∙◌, arith, option_and_then}
 use Rattle.std.specs.Prelude.{slice_get, All}
 use Rattle.std.specs.Fmt.{decimal}
 use Rattle.std.specs.Str.{all_ascii_digits}
 use Rattle.std.specs.Str.Parse.{digits_value}
 use Rattle.std.specs.Char.{is_ascii_digit}
 use Rattle.std.specs.List.{slice_split, join_with_byte, list_all}
-use Rattle.std.proofs.lemmas.Bool.{and_parts, eqb-true, leb-true, le-leb, lt-ltb, ltb-true, false≢true}
+use Rattle.std.proofs.lemmas.Bool.{and_parts, eqb-true, le-leb, lt-ltb, ltb-true, false≢true}
 use Rattle.std.proofs.lemmas.Str.Parse.{IsNumeralModel, numerals_by_value, tells_all_ascii_digits}
 use Rattle.std.proofs.lemmas.Fmt.{digits_decimal}
 use Rattle.std.proofs.lemmas.List.{length-drop}
@@ -17,17 +17,15 @@ use Rattle.block_record.specs.declared.blocks.Slip.{Slip}
 use Rattle.block_record.specs.Number.{number_of}
 use Rattle.block_record.specs.Texts.{is_id_text, is_id_byte, is_reader_text, is_reader_byte}
 use Rattle.block_record.proofs.NumberTexts.{number_of-decimal, decimal-number_of}
-use Rattle.one_block.specs.declared.moments.CivilDay.{CivilDay}
-use Rattle.one_block.specs.declared.moments.ClockTime.{ClockTime}
 use Rattle.one_block.specs.declared.moments.Moment.{Moment}
 use Rattle.one_block.specs.declared.names.NameParts.{NameParts}
 use Rattle.one_block.specs.Moments.{moment_of, day_text, clock_text, moment_text, IsTimely}
 use Rattle.one_block.specs.Numerals.{padded, filled_number}
-use Rattle.one_block.specs.Names.{id_end, name_words, name_text, parts_of, one_block_name, is_id_end, passing, word_at, parts_named, name_parts, IsName, IsNamed}
+use Rattle.one_block.specs.Names.{id_end, name_words, name_text, parts_of, is_id_end, passing, word_at, parts_named, name_parts, IsName, IsNamed}
 use Rattle.one_block.specs.Reading.{tenths_named, ◌>>=◌}
 use Rattle.one_block.specs.Laws.{NamesAreRead}
 use Rattle.one_block.proofs.NumeralFacts.{filled_number-padded, padded-filled_number}
-use Rattle.one_block.proofs.MomentFacts.{tenths_named-moment_text, moment_text-tenths_named, SmallParts, small_parts, step_is, step_took, some_is}
+use Rattle.one_block.proofs.MomentFacts.{tenths_named-moment_text, moment_text-tenths_named, small_parts, step_is, step_took, some_is}
 
 -- ---- words without a dash
 

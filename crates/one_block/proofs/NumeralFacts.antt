@@ -1,7 +1,7 @@
 -- Numbers that zeros fill: what is written is read, and what is read is what is written.
-use Rattle.std.proofs.Common.{◌≡◌, ℕ, zero, suc, ◌+◌, ◌-◌, ◌^◌, ◌<◌, ◌≤◌, Bool, true, false, ◌&&◌, cond, eqb, nat_lt, List, [], ◌∷◌, ◌++◌, length, replicate, get_or, Option, None, Some, inl, inr, refl, sym, ap, ◌∙◌, arith}
+use Rattle.std.proofs.Common.{◌≡◌, ℕ, zero, suc, ◌-◌, ◌^◌, ◌<◌, ◌≤◌, Bool, true, false, ◌&&◌, cond, eqb, nat_lt, List, [], ◌∷◌, ◌++◌, length, replicate, Option, None, Some, inl, inr, refl, sym, ap, ◌∙◌, arith}
 use Rattle.std.specs.Fmt.{decimal}
-use Rattle.std.proofs.lemmas.Bool.{and_parts, cases_lt, ltb-true, ltb-false, lt-ltb, le-ltb, eqb-true, eqb-false, eq-eqb, ne_eqb}
+use Rattle.std.proofs.lemmas.Bool.{and_parts, cases_lt, ltb-true, ltb-false, lt-ltb, le-ltb, eqb-true, eq-eqb}
 use Rattle.std.proofs.lemmas.List.{length-append, length-replicate}
 use Rattle.std.proofs.lemmas.Fmt.{decimal_nonempty}
 use Rattle.block_record.specs.Number.{HasOtherForm, number_of}
@@ -77,13 +77,13 @@ pub filled_number-padded : (width n : ℕ) → n < 2 ^ 64 → filled_number widt
 filled_number-padded width n small =
     elim (cases_lt (length (decimal n)) width) [
       | inl short ↦ (
-        let enough : nat_lt (length (padded width n)) width ≡ false = le-ltb _ _ (omega (arith, length-padded width n (omega (arith, short)))) in
-        let just : eqb (length (padded width n)) width ≡ true = eq-eqb _ _ (length-padded width n (omega (arith, short))) in
-        let bare : without_zeros (padded width n) ≡ decimal n = without_zeros-replicate (width - length (decimal n)) (decimal n) (decimal_nonempty n small) ∙ without_zeros-decimal n small in
-        rw (enough, just) (ap number_of bare ∙ number_of-decimal n small))
+          let enough : nat_lt (length (padded width n)) width ≡ false = le-ltb _ _ (omega (arith, length-padded width n (omega (arith, short)))) in
+          let just : eqb (length (padded width n)) width ≡ true = eq-eqb _ _ (length-padded width n (omega (arith, short))) in
+          let bare : without_zeros (padded width n) ≡ decimal n = without_zeros-replicate (width - length (decimal n)) (decimal n) (decimal_nonempty n small) ∙ without_zeros-decimal n small in
+          rw (enough, just) (ap number_of bare ∙ number_of-decimal n small))
       | inr long ↦ (
-        let same = padded_long width n long in
-        rw same (again_of width n (decimal n) long (ap number_of (without_zeros-decimal n small) ∙ number_of-decimal n small) (number_of-decimal n small)))
+          let same = padded_long width n long in
+          rw same (again_of width n (decimal n) long (ap number_of (without_zeros-decimal n small) ∙ number_of-decimal n small) (number_of-decimal n small)))
     ]
 
 -- a text that is read as a number is its text

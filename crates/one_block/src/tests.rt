@@ -1,6 +1,8 @@
 //! Names of files, with answers from the rules and from the system's calendar.
 
-use crate::{NameParts, bare_name, forked_name, merged_base, merged_name, name_of, parse_name, whole_name};
+use crate::{
+    NameParts, bare_name, forked_name, merged_base, merged_name, name_of, parse_name, whole_name,
+};
 use block_record::{Id, ReaderName, Slip};
 use outer_world::FileName;
 use std::alloc::Global;
@@ -45,7 +47,14 @@ const NAMES: [(Given, &str); 8] = [
         "0000000000-19700101T000000.0-g0-z0-0-r2",
     ),
     (
-        (1, 951_782_400_000_000_000, "0123456789abcdef", "0123456789abcdefg", 0, "a_1"),
+        (
+            1,
+            951_782_400_000_000_000,
+            "0123456789abcdef",
+            "0123456789abcdefg",
+            0,
+            "a_1",
+        ),
         "0000000001-20000229T000000.0-0123456789abcdef-123456789abcdefg-0-a_1",
     ),
     (
@@ -65,7 +74,14 @@ const NAMES: [(Given, &str); 8] = [
         "9999999999-25540721T233433.7-a-b-0-r1",
     ),
     (
-        (18_446_744_073_709_551_615, 99_999_999, "a", "b", 18_446_744_073_709_551_615, "r1"),
+        (
+            18_446_744_073_709_551_615,
+            99_999_999,
+            "a",
+            "b",
+            18_446_744_073_709_551_615,
+            "r1",
+        ),
         "18446744073709551615-19700101T000000.0-a-b-18446744073709551615-r1",
     ),
 ];
@@ -88,10 +104,38 @@ fn parse(alloc: Global, text: &str) -> Result<Option<NameParts>, Fail> {
 type Told = (&'static str, u64, u64, u64, &'static str, &'static str);
 
 const READ: [Told; 4] = [
-    ("0000000100-20170714T024000.1-x100-x99-98-r1", 100, 15_000_000_001, 98, "x100", "x99"),
-    ("0000000000-19700101T000000.0-g0-z0-0-r1", 0, 0, 0, "g0", "z0"),
-    ("0000000007-99991231T235959.9-a-b-6-r1", 7, 2_534_023_007_999, 6, "a", "b"),
-    ("0000000007-99960229T000000.0-a-b-6-r1", 7, 2_532_811_680_000, 6, "a", "b"),
+    (
+        "0000000100-20170714T024000.1-x100-x99-98-r1",
+        100,
+        15_000_000_001,
+        98,
+        "x100",
+        "x99",
+    ),
+    (
+        "0000000000-19700101T000000.0-g0-z0-0-r1",
+        0,
+        0,
+        0,
+        "g0",
+        "z0",
+    ),
+    (
+        "0000000007-99991231T235959.9-a-b-6-r1",
+        7,
+        2_534_023_007_999,
+        6,
+        "a",
+        "b",
+    ),
+    (
+        "0000000007-99960229T000000.0-a-b-6-r1",
+        7,
+        2_532_811_680_000,
+        6,
+        "a",
+        "b",
+    ),
 ];
 
 #[test]
@@ -159,7 +203,10 @@ fn whole_names_have_folder_and_ending(rt: HostRuntime) -> Result<(), Fail> {
 const BASES: [(&str, Option<u64>); 8] = [
     ("merged/0000000000.dbin", Some(0)),
     ("merged/0000000100.dbin", Some(100)),
-    ("merged/18446744073709551600.dbin", Some(18_446_744_073_709_551_600)),
+    (
+        "merged/18446744073709551600.dbin",
+        Some(18_446_744_073_709_551_600),
+    ),
     ("merged/0000000150.dbin", None),
     ("merged/000000100.dbin", None),
     ("merged/00000000100.dbin", None),

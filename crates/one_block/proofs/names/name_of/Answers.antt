@@ -1,7 +1,7 @@
 use Rattle.std.specs.Fmt.{decimal}
 use Rattle.one_block.specs.Numerals.{padded}
 use Rattle.one_block.specs.Moments.{moment_of, moment_text}
-use Rattle.one_block.specs.Names.{id_end, one_block_name}
+use Rattle.one_block.specs.Names.{id_end}
 use Rattle.std.proofs.Common.{◌/◌}
 use Rattle.one_block.proofs.JoinFacts.{joined}
 use Rattle.one_block.proofs.names.name_of.Goals as goal

@@ -1,4 +1,4 @@
-use Rattle.std.proofs.Common.{◌≡◌, ◌++◌, ◌-◌, replicate}
+use Rattle.std.proofs.Common.{◌≡◌, ◌++◌, replicate}
 use Rattle.one_block.proofs.print.push_zeros.Given as goal
 
 abbrev pub invariant-loop : goal.invariant-loop
