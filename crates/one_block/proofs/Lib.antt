@@ -4,3 +4,4 @@ mod NumeralFacts
 mod MomentFacts
 mod NameFacts
 mod FileFacts
+mod HeldFacts

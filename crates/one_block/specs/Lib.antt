@@ -6,3 +6,5 @@ pub mod Reading
 pub mod Seen
 pub mod Files
 pub mod Laws
+pub mod OneFiles
+pub mod HeldSteps

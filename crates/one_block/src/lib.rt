@@ -2,6 +2,7 @@
 #![tactic(auto)]
 
 mod files;
+mod held;
 mod laws;
 mod moments;
 mod names;
