@@ -5,3 +5,4 @@ mod MomentFacts
 mod NameFacts
 mod FileFacts
 mod HeldFacts
+mod PutFacts

@@ -8,3 +8,6 @@ pub mod Files
 pub mod Laws
 pub mod OneFiles
 pub mod HeldSteps
+pub mod StoreFaults
+pub mod Puts
+pub mod PutSteps
