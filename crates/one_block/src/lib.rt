@@ -20,4 +20,6 @@ pub use parse::parse_name;
 pub use put::put_block;
 
 #[cfg(test)]
+mod put_tests;
+#[cfg(test)]
 mod tests;
