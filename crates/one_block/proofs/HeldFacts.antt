@@ -1,8 +1,8 @@
 -- What a text says as a container, and what the file of a single block holds.
-use Rattle.std.proofs.Common.{◌≡◌, ◌≢◌, ℕ, suc, ◌+◌, ◌<◌, Bool, true, false, ◌||◌, cond, nat_lt, List, [], ◌∷◌, length, Option, None, Some, Result, Ok, Err, inl, inr, refl, sym, ap, subst, ◌∙◌, arith}
-use Rattle.std.specs.Prelude.{slice_get, IsTrue}
-use Rattle.std.specs.Option.{is_some, unwrap_or}
-use Rattle.std.proofs.lemmas.Bool.{or_parts, ltb-false, lt-ltb, ltb-true}
+use Rattle.std.proofs.Common.{◌≡◌, ℕ, ◌+◌, Bool, false, ◌||◌, nat_lt, List, [], ◌∷◌, length, Option, None, Some, Result, Ok, Err, inl, inr, refl, sym, ap, subst, ◌∙◌, arith}
+use Rattle.std.specs.Prelude.{slice_get}
+use Rattle.std.specs.Option.{is_some}
+use Rattle.std.proofs.lemmas.Bool.{or_parts, ltb-false, lt-ltb}
 use Rattle.std.proofs.lemmas.List.{nil_from_length}
 use Rattle.block_record.specs.declared.blocks.Slip.{Slip}
 use Rattle.dbin_file.specs.Header.{header_fault, header_size}
@@ -81,5 +81,5 @@ held_from name by text first file goes_on result has got is answers = by_list (c
         let same : first ≡ m = sym (some_is m first first_is) in
         let place : 11 + file.type_len ≡ record_place text = ap (λ n. 11 + n) has.type_len in
         let goes : goes_on ≡ (nat_lt 0 (length more) || is_some (container_fault text)) =
-            is ∙ ap (λ (l : List (List ℕ)). nat_lt 1 (length l) || is_some file.fault) (has.messages ∙ e) ∙ ap (λ t. t || is_some file.fault) (more_than_one m more) ∙ ap (λ o. nat_lt 0 (length more) || is_some o) has.fault in
+        is ∙ ap (λ (l : List (List ℕ)). nat_lt 1 (length l) || is_some file.fault) (has.messages ∙ e) ∙ ap (λ t. t || is_some file.fault) (more_than_one m more) ∙ ap (λ o. nat_lt 0 (length more) || is_some o) has.fault in
         held_answers name by text m more e result (rw (← same, ← place, ← goes) answers)

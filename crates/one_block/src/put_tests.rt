@@ -36,7 +36,10 @@ impl Shelf for OneFile {
     }
 
     fn read_at(&mut self, _name: &FileName, at: u64, buf: &mut [u8]) -> Result<usize, ShelfFail> {
-        let kept = self.text.as_ref().and_then(|text| text.get(at as usize).copied());
+        let kept = self
+            .text
+            .as_ref()
+            .and_then(|text| text.get(at as usize).copied());
         match (kept, buf.first_mut()) {
             (Some(byte), Some(place)) => {
                 *place = byte;
