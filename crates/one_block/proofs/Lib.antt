@@ -1,0 +1,8 @@
+mod CalendarFacts
+mod JoinFacts
+mod NumeralFacts
+mod MomentFacts
+mod NameFacts
+mod FileFacts
+mod HeldFacts
+mod PutFacts

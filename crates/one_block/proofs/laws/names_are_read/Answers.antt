@@ -1,0 +1,5 @@
+use Rattle.one_block.proofs.NameFacts.{names_are_read}
+use Rattle.one_block.proofs.laws.names_are_read.Goals as goal
+
+pub returns : goal.returns
+returns c = names_are_read

@@ -1,0 +1,9 @@
+use Rattle.std.proofs.Common.{◌∙◌}
+use Rattle.block_record.specs.Records.{record_text}
+use Rattle.one_block.proofs.PutFacts.{one_message}
+use Rattle.one_block.proofs.put.one_file.Goals as goal
+
+pub returns : goal.returns
+returns c =
+    one_message c.args.kind.now.block_type (record_text c.args.block.now) c.in_ok-text.text.items c.as_slice.result.now c.in_ok-only.only.items c.as_slice-2.result.now _
+    c.in_ok-text.ensures.text (c.as_slice.ensures.value ∙ c.in_ok-record.ensures.text) c.in_ok-only.ensures c.as_slice-2.ensures.value c.in_ok-extend_from_slice.ensures.items

@@ -1,0 +1,13 @@
+pub mod Calendar
+pub mod Moments
+pub mod Numerals
+pub mod Names
+pub mod Reading
+pub mod Seen
+pub mod Files
+pub mod Laws
+pub mod OneFiles
+pub mod HeldSteps
+pub mod StoreFaults
+pub mod Puts
+pub mod PutSteps
