@@ -1,6 +1,6 @@
 //! The room.
 
-ghost use Rattle.std.specs.Prelude.{◌≡◌, ◌<◌, ◌≤◌, [], map, length, IfOk, IfSome, OnOk, OnErr, IsTrue, Some, false};
+ghost use Rattle.std.specs.Prelude.{◌≡◌, ◌<◌, ◌≤◌, ◌^◌, [], map, length, IfOk, IfSome, OnOk, OnErr, IsTrue, Some, false};
 ghost use Rattle.std.specs.Option.{option_copied, option_map};
 ghost use Rattle.block_record.specs.declared.blocks.Slip.{Slip as SlipOf};
 ghost use Rattle.block_record.specs.Slips.{slip as slip_of_block};
@@ -77,6 +77,7 @@ impl WaitRoom {
     pub fn blocks(&self) -> u64
         ensures count { result ≡ length self.now.waiting }
         ensures limit { result ≤ self.now.most_blocks }
+        ensures small { result < 2 ^ 63 }
         ensures own { map slip_of_block self.now.held ≡ self.now.waiting }
         ensures distinct { IsDistinct self.now.waiting }
     {
