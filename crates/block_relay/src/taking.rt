@@ -1,6 +1,6 @@
 //! The waiting blocks that follow an admitted block.
 
-ghost use Rattle.std.specs.Prelude.{◌≡◌, ◌<◌, ◌≤◌, ◌+◌, [], length, reverse, vec_len, vec_capacity, IfSome, None, Some, true, false};
+ghost use Rattle.std.specs.Prelude.{◌≡◌, ◌<◌, ◌≤◌, ◌+◌, [], length, reverse, vec_len, vec_capacity, IfSome, None, Some, true, false, ℕ, ◌^◌, Err, IfOk, IsErr};
 ghost use Rattle.std.specs.Option.{is_some};
 ghost use Rattle.block_record.specs.Slips.{slip as slip_of_block};
 ghost use Rattle.chain_model.specs.Ancestry.{has_id};
@@ -9,10 +9,12 @@ ghost use Rattle.relay_model.specs.Offers.{clash, purged, take_in, take_one};
 ghost use Rattle.relay_model.specs.Worlds.{descendants, next_waiting};
 ghost use Rattle.block_relay.specs.Taking.{AreWithin, CanStart, CanTake, clashes_seen, dropped_after, history_after, intake_from, intake_of};
 
+use crate::answers::OfferFault;
 use crate::judged::{clash_with, tip_number};
 use block_record::{Block, Id, Slip};
-use fork_db::ForkDb;
+use fork_db::{ForkDb, ForkFault};
 use relay_model::ConflictKind;
+use std::alloc::AllocError;
 use std::sync::Arc;
 use wait_room::{Holds, WaitRoom};
 
@@ -33,6 +35,39 @@ impl Holds for History<'_> {
 
     fn holds(&self, id: &Id) -> bool {
         self.0.find(id).is_some()
+    }
+}
+
+/// How many waiting blocks descend from the id: no more than wait.
+fn count_in(room: &WaitRoom, id: &Id) -> Result<u64, AllocError>
+    ensures count { IfOk result (λ n. n ≡ descendants room.now.waiting id.now) }
+    ensures small { IfOk result (λ n. n < 2 ^ 63) }
+{
+    let _ = room.blocks();
+    let count = room.descendants(id)?;
+    Ok(count)
+}
+
+/// Makes room in the history for a block and the waiting blocks that descend from it, and gives how
+/// many these are.
+pub fn make_room(db: &mut ForkDb, room: &WaitRoom, id: &Id) -> Result<u64, OfferFault>
+    ensures history { db.new.history ≡ db.old.history }
+    ensures held { db.new.held ≡ db.old.held }
+    ensures limit { db.new.limit ≡ db.old.limit }
+    ensures ok { IfOk result
+        (λ n. (n ≡ 1 + descendants room.now.waiting id.now) × (n ≤ db.new.room)) }
+    // `HistoryFull` comes exactly where so many would pass the limit, but for want of memory.
+    ensures full { (len need : ℕ) → result ≡ Err (OfferFault.HistoryFull len need)
+        → (len ≡ length db.old.history) × (need ≡ 1 + descendants room.now.waiting id.now)
+        × (db.old.limit < len + need) }
+    ensures limited { db.old.limit < length db.old.history
+        + (1 + descendants room.now.waiting id.now) → IsErr result }
+{
+    let need = 1 + count_in(room, id)?;
+    match db.reserve(need) {
+        Ok(()) => Ok(need),
+        Err(ForkFault::Full { len }) => Err(OfferFault::HistoryFull { len, need }),
+        Err(ForkFault::Mem) => Err(OfferFault::Mem),
     }
 }
 
