@@ -1,5 +1,5 @@
 -- The waiting blocks that follow an admitted block, as they are taken one by one.
-use Rattle.std.specs.Prelude.{ℕ, ◌≡◌, ◌+◌, ◌≤◌, ◌<◌, true, false, List, [], ◌∷◌, ◌++◌, length, reverse, filter, Option, None, Some}
+use Rattle.std.specs.Prelude.{ℕ, ◌≡◌, ◌+◌, ◌≤◌, ◌<◌, true, false, List, [], ◌∷◌, ◌++◌, length, reverse, filter, Option, None, Some, ⊤}
 use Rattle.std.specs.List.{AllByRecursion}
 use Rattle.block_record.specs.declared.blocks.Slip.{Slip}
 use Rattle.chain_model.specs.Ancestry.{find_id, has_id}
@@ -13,6 +13,8 @@ use Rattle.relay_model.proofs.Intakes.{IsTaking}
 use Rattle.fork_db.specs.Forks.{Forks}
 use Rattle.wait_room.specs.Rooms.{Room}
 use Rattle.block_relay.specs.Judged.{HasParts}
+use Rattle.block_relay.specs.declared.answers.OfferFault.{OfferFault}
+use Rattle.block_relay.specs.declared.answers.OfferFault.TheVariants as fault
 use Rattle.block_relay.specs.declared.taking.Dropped.{Dropped}
 
 -- the conflict of a block with the one that was found
@@ -73,3 +75,11 @@ pub record CanStart (db : Forks) (room : Room) (s : Slip) : Type 0 where
   pub sound : IsSound world
   pub block : IsBlock s
   pub takes : judge world s ≡ Takes
+
+-- why there may be no room: the limit of the history, or no memory
+abbrev pub IsRoomFault : OfferFault → Type 0
+IsRoomFault (fault.HistoryFull len need) = ⊤
+IsRoomFault fault.Mem = ⊤
+IsRoomFault (fault.Closed len) = ⊥
+IsRoomFault (fault.Conflict c) = ⊥
+IsRoomFault (fault.WaitFull blocks bytes) = ⊥

@@ -1,13 +1,13 @@
 //! The waiting blocks that follow an admitted block.
 
-ghost use Rattle.std.specs.Prelude.{◌≡◌, ◌<◌, ◌≤◌, ◌+◌, [], length, reverse, vec_len, vec_capacity, IfSome, None, Some, true, false, ℕ, ◌^◌, Err, IfOk, IsErr};
+ghost use Rattle.std.specs.Prelude.{◌≡◌, ◌<◌, ◌≤◌, ◌+◌, [], length, reverse, vec_len, vec_capacity, IfSome, None, Some, true, false, ℕ, ◌^◌, Err, IfErr, IfOk, IsErr};
 ghost use Rattle.std.specs.Option.{is_some};
 ghost use Rattle.block_record.specs.Slips.{slip as slip_of_block};
 ghost use Rattle.chain_model.specs.Ancestry.{has_id};
 ghost use Rattle.block_tree.specs.Places.{place_of};
 ghost use Rattle.relay_model.specs.Offers.{clash, purged, take_in, take_one};
 ghost use Rattle.relay_model.specs.Worlds.{descendants, next_waiting};
-ghost use Rattle.block_relay.specs.Taking.{AreWithin, CanStart, CanTake, clashes_seen, dropped_after, history_after, intake_from, intake_of};
+ghost use Rattle.block_relay.specs.Taking.{AreWithin, CanStart, CanTake, clashes_seen, dropped_after, history_after, intake_from, intake_of, IsRoomFault};
 
 use crate::answers::OfferFault;
 use crate::judged::{clash_with, tip_number};
@@ -56,6 +56,7 @@ pub fn make_room(db: &mut ForkDb, room: &WaitRoom, id: &Id) -> Result<u64, Offer
     ensures limit { db.new.limit ≡ db.old.limit }
     ensures ok { IfOk result
         (λ n. (n ≡ 1 + descendants room.now.waiting id.now) × (n ≤ db.new.room)) }
+    ensures faults { IfErr result IsRoomFault }
     // `HistoryFull` comes exactly where so many would pass the limit, but for want of memory.
     ensures full { (len need : ℕ) → result ≡ Err (OfferFault.HistoryFull len need)
         → (len ≡ length db.old.history) × (need ≡ 1 + descendants room.now.waiting id.now)
