@@ -1,0 +1,3 @@
+mod ContainerFacts
+mod LinkFacts
+mod SingleFacts

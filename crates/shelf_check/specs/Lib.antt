@@ -1,0 +1,5 @@
+pub mod Containers
+pub mod Bundles
+pub mod Forms
+pub mod Singles
+pub mod Steps
