@@ -1,3 +1,8 @@
+mod ListFacts
 mod ContainerFacts
 mod LinkFacts
 mod SingleFacts
+mod RefusalFacts
+mod FolderFacts
+mod MergedFacts
+mod ShelfFacts

@@ -3,3 +3,7 @@ pub mod Bundles
 pub mod Forms
 pub mod Singles
 pub mod Steps
+pub mod Refusals
+pub mod Folders
+pub mod Merged
+pub mod Shelf

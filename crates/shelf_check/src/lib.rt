@@ -2,12 +2,16 @@
 #![tactic(auto)]
 
 mod bundles;
+mod check;
 mod containers;
 mod faults;
+mod folders;
 mod forms;
+mod merged;
 mod singles;
 
 pub use bundles::{BundleRead, check_bundle};
+pub use check::{Report, check_shelf};
 pub use faults::{FileFault, LoadFault};
 pub use forms::Folder;
 pub use singles::check_single;
