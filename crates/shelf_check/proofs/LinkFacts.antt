@@ -2,8 +2,7 @@
 use Rattle.std.proofs.Common.{arith, ◌≡◌, ◌<◌, ◌≤◌, ◌+◌, ◌-◌, ◌^◌, ◌==◌, ◌&&◌, ◌||◌, ◌⊎◌, inl, inr, ℕ, suc, Bool, true, false, not, nat_lt, IsTrue, List, [], ◌∷◌, ◌++◌, length, map, reverse, take, drop, get_or, min, Option, Some, None, Result, Ok, Err, refl, sym, ap, subst, ◌∙◌, add-one, append_assoc}
 use Rattle.std.specs.Option.{is_some, option_map, unwrap_or}
 use Rattle.std.proofs.lemmas.Bool.{and_parts, lt-ltb}
-use Rattle.std.proofs.lemmas.List.{take_more, take-append-drop, reverse-append, map-append, length-reverse, length-map}
-use Rattle.std.proofs.Math.Seq.{drop-cons}
+use Rattle.std.proofs.lemmas.List.{take_all, length-reverse, length-map}
 use Rattle.block_record.specs.declared.blocks.Block.{Block}
 use Rattle.block_record.specs.declared.blocks.BlockRef.{BlockRef}
 use Rattle.block_record.specs.Records.{record_text}
@@ -14,8 +13,9 @@ use Rattle.shelf_check.specs.declared.containers.FileContents.{FileContents}
 use Rattle.shelf_check.specs.declared.faults.FileFault.{FileFault}
 use Rattle.shelf_check.specs.declared.faults.FileFault.TheVariants.{Bad, OtherType, Mem}
 use Rattle.shelf_check.specs.Containers.{AreRecords, HasHead, IsKept, IsNoRecord}
-use Rattle.shelf_check.specs.Bundles.{tip_after, AreNext, place_after, IsNotNext, IsBadMessage, IsBadEnd, IsBundleRead, BundleRefused}
+use Rattle.shelf_check.specs.Bundles.{is_next, tip_after, AreNext, place_after, IsNotNext, IsBadMessage, IsBadEnd, IsBundleRead, BundleRefused}
 use Rattle.shelf_check.specs.Steps.{HasContents, HeadRefused, IsNextRecord, NextRefused, AreLinked, LinkRefused, IsBadAfter, WholeRefused}
+use Rattle.shelf_check.proofs.ListFacts.{taken_more, cut_at}
 use Rattle.shelf_check.proofs.ContainerFacts.{has_head, bad_head, other_type, none_of, not_whole}
 
 -- messages are linked, and the next one stands at this place
@@ -27,31 +27,24 @@ pub record IsLinkedTo (base first : ℕ) (before : Option BlockRef) (messages : 
   pub at_is : at ≡ told (place_after first blocks)
 
 pub linked_none : (base first : ℕ) (before : Option BlockRef) (messages : List (List ℕ)) → first < 2 ^ 64 → IsLinkedTo base first before (take 0 messages) before first
-linked_none base first before messages small = record { blocks = []; records = refl; next = tt; tip_is = refl; at_is = omega arith }
+linked_none base first before messages small = record { blocks = []; records = record { texts = refl; recordable = tt }; next = tt; tip_is = refl; at_is = omega arith }
 
 told_more : (x y : ℕ) → min (min x (2 ^ 64 - 1) + y) (2 ^ 64 - 1) ≡ min (x + y) (2 ^ 64 - 1)
 told_more x y = omega arith
-
--- the records of one block more
-records_more : (b : Block) (older : List Block) → map record_text (reverse (b ∷ older)) ≡ map record_text (reverse older) ++ record_text b ∷ []
-records_more b older = ap (map record_text) (reverse-append (b ∷ []) older) ∙ map-append record_text (reverse older) (b ∷ [])
 
 pub linked_more : (base first : ℕ) (before : Option BlockRef) (messages : List (List ℕ)) (i : ℕ) (m : List ℕ) (tip : Option BlockRef) (next : BlockRef) (at at' : ℕ)
     → i < length messages → m ≡ get_or messages i m → IsLinkedTo base first before (take i messages) tip at → IsNextRecord base tip m next
     → at' ≡ told (at + (length m + 4)) → IsLinkedTo base first before (take (i + 1) messages) (Some next) at'
 linked_more base first before messages i m tip next at at' within item l n at_is = record {
   blocks = n.block ∷ l.blocks;
-  records = take_more messages i m within ∙ ap (λ (x : List ℕ). take i messages ++ x ∷ []) (sym item ∙ n.record_is) ∙ ap (λ (ms : List (List ℕ)). ms ++ record_text n.block ∷ []) l.records ∙ sym (records_more n.block l.blocks);
-  next = (subst (λ (t : Option BlockRef). IsTrue (Rattle.shelf_check.specs.Bundles.is_next base t n.block)) l.tip_is n.next, l.next);
+  records = record {
+    texts = taken_more record_text n.block l.blocks messages i m within item n.record_is.text l.records.texts;
+    recordable = (n.record_is.recordable, l.records.recordable);
+  };
+  next = (subst (λ (t : Option BlockRef). IsTrue (is_next base t n.block)) l.tip_is n.next, l.next);
   tip_is = ap Some n.tip_is;
-  at_is = at_is ∙ ap (λ a. told (a + (length m + 4))) l.at_is ∙ told_more (place_after first l.blocks) (length m + 4) ∙ ap (λ (t : List ℕ). told (place_after first l.blocks + (length t + 4))) n.record_is;
+  at_is = at_is ∙ ap (λ a. told (a + (length m + 4))) l.at_is ∙ told_more (place_after first l.blocks) (length m + 4) ∙ ap (λ (t : List ℕ). told (place_after first l.blocks + (length t + 4))) n.record_is.text;
 }
-
--- the messages that were linked, the one that was not, and those after it
-cut_at : (messages : List (List ℕ)) (i : ℕ) (m : List ℕ) (blocks : List Block) → i < length messages → m ≡ get_or messages i m → AreRecords (take i messages) blocks → messages ≡ map record_text (reverse blocks) ++ m ∷ drop (suc i) messages
-cut_at messages i m blocks within item records =
-    sym (take-append-drop i messages) ∙ ap (λ (ms : List (List ℕ)). ms ++ drop i messages) records
-    ∙ ap (λ (ms : List (List ℕ)). map record_text (reverse blocks) ++ ms) (drop-cons messages i m within ∙ ap (λ (x : List ℕ). x ∷ drop (suc i) messages) (sym item))
 
 module _ (base first : ℕ) (before : Option BlockRef) (messages : List (List ℕ)) (i : ℕ) (m : List ℕ) (tip : Option BlockRef) (at : ℕ) (within : i < length messages) (item : m ≡ get_or messages i m) (l : IsLinkedTo base first before (take i messages) tip at) where
   bad_record : (at' : ℕ) → IsNoRecord at m at' → IsNoRecord (place_after first l.blocks) m at'
@@ -61,7 +54,7 @@ module _ (base first : ℕ) (before : Option BlockRef) (messages : List (List �
   not_next at' n = record {
     block = n.block;
     record_is = n.record_is;
-    not_next = ap (λ (t : Option BlockRef). Rattle.shelf_check.specs.Bundles.is_next base t n.block) (sym l.tip_is) ∙ n.not_next;
+    not_next = ap (λ (t : Option BlockRef). is_next base t n.block) (sym l.tip_is) ∙ n.not_next;
     at_is = n.at_is ∙ ap told l.at_is ∙ told_twice (place_after first l.blocks);
   }
     where
@@ -69,7 +62,7 @@ module _ (base first : ℕ) (before : Option BlockRef) (messages : List (List �
       told_twice x = omega arith
 
   bad_message : (at' : ℕ) → IsNoRecord (place_after first l.blocks) m at' ⊎ IsNotNext base (tip_after before l.blocks) (place_after first l.blocks) m at' → IsBadMessage base first messages before at'
-  bad_message at' bad = record { blocks = l.blocks; message = m; more = drop (suc i) messages; messages_are = cut_at messages i m l.blocks within item l.records; next = l.next; bad = bad }
+  bad_message at' bad = record { blocks = l.blocks; front = take i messages; message = m; more = drop (suc i) messages; messages_are = cut_at messages (take i messages) i m within item refl; records = l.records; next = l.next; bad = bad }
 
   pub link_refused : (e : FileFault) → NextRefused base at tip m e → LinkRefused base first messages before e
   link_refused (Bad at') (inl n) = bad_message at' (inl (bad_record at' n))
@@ -79,15 +72,15 @@ module _ (base first : ℕ) (before : Option BlockRef) (messages : List (List �
 
 -- all messages are linked
 pub all_linked : (base first : ℕ) (before : Option BlockRef) (messages : List (List ℕ)) (tip : Option BlockRef) (at n : ℕ) → n ≡ length messages → IsLinkedTo base first before (take n messages) tip at → AreLinked base before messages tip
-all_linked base first before messages tip at n all l = record { blocks = l.blocks; records = sym (whole messages n all) ∙ l.records; next = l.next; tip_is = l.tip_is }
+all_linked base first before messages tip at n all l = record { blocks = l.blocks; records = record { texts = sym (whole messages n all) ∙ l.records.texts; recordable = l.records.recordable }; next = l.next; tip_is = l.tip_is }
   where
     whole : (ms : List (List ℕ)) (k : ℕ) → k ≡ length ms → take k ms ≡ ms
-    whole ms k e = Rattle.std.proofs.lemmas.List.take_all k ms (omega arith)
+    whole ms k e = take_all k ms (omega arith)
 
 -- ---- the whole file
 
 length_records : (messages : List (List ℕ)) (blocks : List Block) → AreRecords messages blocks → length messages ≡ length blocks
-length_records messages blocks records = ap length records ∙ length-map (reverse blocks) record_text ∙ length-reverse blocks
+length_records messages blocks records = ap length records.texts ∙ length-map (reverse blocks) record_text ∙ length-reverse blocks
 
 module _ (base : ℕ) (text : List ℕ) (kept : Option (List ℕ)) (before : Option BlockRef) (file : FileContents) (end : ℕ) (has : HasContents text file) (end_is : end ≡ unwrap_or (option_map fault_place file.fault) (told (length text))) where
   pub head_refused : (e : FileFault) → HeadRefused file.block_type kept end e → BundleRefused base text kept before e
@@ -105,7 +98,7 @@ module _ (base : ℕ) (text : List ℕ) (kept : Option (List ℕ)) (before : Opt
     bad_end : (at : ℕ) → IsBadAfter base file.messages.items before ends end at → IsBadEnd base text before at
     bad_end at b = record {
       blocks = b.linked.blocks;
-      records = sym has.messages ∙ b.linked.records;
+      records = record { texts = sym has.messages ∙ b.linked.records.texts; recordable = b.linked.records.recordable };
       next = b.linked.next;
       ends = by_cause b.not_ended;
       place = b.at_is ∙ end_is ∙ ap (λ f. unwrap_or (option_map fault_place f) (told (length text))) has.fault;
@@ -136,7 +129,7 @@ module _ (base : ℕ) (text : List ℕ) (kept : Option (List ℕ)) (before : Opt
         record {
           blocks = l.blocks;
           bundle = record {
-            holds = record { typed = head.typed; records = sym has.messages ∙ l.records; whole = sym has.fault ∙ none_of file.fault parts.1 };
+            holds = record { typed = head.typed; records = record { texts = sym has.messages ∙ l.records.texts; recordable = l.records.recordable }; whole = sym has.fault ∙ none_of file.fault parts.1 };
             some = ap (λ n. nat_lt 0 n) (sym (length_records file.messages.items l.blocks l.records)) ∙ parts.0;
             same = same;
             next = l.next;

@@ -10,7 +10,7 @@ use Rattle.one_block.specs.OneFiles.{container_fault, empty_place, record_place}
 use Rattle.shelf_check.specs.declared.bundles.BundleRead.{BundleRead}
 use Rattle.shelf_check.specs.declared.faults.FileFault.{FileFault}
 use Rattle.shelf_check.specs.declared.faults.FileFault.TheVariants.{Bad, OtherType, Mem}
-use Rattle.shelf_check.specs.Containers.{AreRecords, HoldsBlocks, HasHead, IsKept, IsBadHead, HasOtherType, IsNoRecord}
+use Rattle.shelf_check.specs.Containers.{IsRecordOf, AreRecords, HoldsBlocks, HasHead, IsKept, IsBadHead, HasOtherType, IsNoRecord}
 
 -- the base of the hundred in which a number lies
 abbrev pub hundred : ℕ → ℕ
@@ -58,16 +58,18 @@ place_after first (b ∷ older) = place_after first older + (length (record_text
 -- a message that stands at this place is the record of a block that may not come next
 pub record IsNotNext (base : ℕ) (before : Option BlockRef) (place : ℕ) (message : List ℕ) (at : ℕ) : Type 0 where
   pub block : Block
-  pub record_is : message ≡ record_text block
+  pub record_is : IsRecordOf message block
   pub not_next : IsFalse (is_next base before block)
   pub at_is : at ≡ told place
 
 -- the first messages are records of blocks that may come next, and the one after them is not
 pub record IsBadMessage (base first : ℕ) (messages : List (List ℕ)) (before : Option BlockRef) (at : ℕ) : Type 0 where
   pub blocks : List Block
+  pub front : List (List ℕ)
   pub message : List ℕ
   pub more : List (List ℕ)
-  pub messages_are : messages ≡ map record_text (reverse blocks) ++ message ∷ more
+  pub messages_are : messages ≡ front ++ message ∷ more
+  pub records : AreRecords front blocks
   pub next : AreNext base before blocks
   pub bad : IsNoRecord (place_after first blocks) message at ⊎ IsNotNext base (tip_after before blocks) (place_after first blocks) message at
 

@@ -1,13 +1,20 @@
 -- Files of blocks: containers whose messages are records, all of one type.
 use Rattle.std.specs.Prelude.{ℕ, ◌≡◌, ◌+◌, List, [], map, reverse, Option, None, Some, ⊤}
 use Rattle.block_record.specs.declared.blocks.Block.{Block}
-use Rattle.block_record.specs.Records.{record_text, record_fault}
+use Rattle.std.specs.List.{AllByRecursion}
+use Rattle.block_record.specs.Records.{record_text, record_fault, IsRecordable}
 use Rattle.dbin_file.specs.Contents.{contents, told}
 use Rattle.one_block.specs.OneFiles.{container_fault, empty_place}
 
+-- a message is the record of this block, whose ids are ids and whose numbers have 64 bits, so that no other block has this record
+pub record IsRecordOf (message : List ℕ) (b : Block) : Type 0 where
+  pub text : message ≡ record_text b
+  pub recordable : IsRecordable b
+
 -- messages are the records of these blocks, the newest block first
-abbrev pub AreRecords : List (List ℕ) → List Block → Type 0
-AreRecords messages blocks = messages ≡ map record_text (reverse blocks)
+pub record AreRecords (messages : List (List ℕ)) (blocks : List Block) : Type 0 where
+  pub texts : messages ≡ map record_text (reverse blocks)
+  pub recordable : AllByRecursion IsRecordable blocks
 
 -- a text is a container of this type that holds these blocks, and nothing else
 pub record HoldsBlocks (text block_type : List ℕ) (blocks : List Block) : Type 0 where

@@ -3,14 +3,13 @@ use Rattle.std.specs.Prelude.{ℕ, ◌≡◌, ◌≢◌, ◌+◌, ◌||◌, ◌�
 use Rattle.std.specs.Option.{is_some}
 use Rattle.block_record.specs.declared.blocks.Block.{Block}
 use Rattle.block_record.specs.Slips.{slip}
-use Rattle.block_record.specs.Records.{record_text}
 use Rattle.dbin_file.specs.Contents.{contents, told}
 use Rattle.one_block.specs.OneFiles.{container_fault, empty_place, record_place}
 use Rattle.shelf_check.specs.declared.faults.FileFault.{FileFault}
 use Rattle.shelf_check.specs.declared.faults.FileFault.TheVariants.{Bad, OtherType, Mem}
 use Rattle.shelf_check.specs.declared.forms.Folder.{Folder}
 use Rattle.shelf_check.specs.declared.forms.Form.{Form}
-use Rattle.shelf_check.specs.Containers.{HoldsBlocks, HasHead, IsKept, IsBadHead, HasOtherType, IsNoRecord}
+use Rattle.shelf_check.specs.Containers.{IsRecordOf, HoldsBlocks, HasHead, IsKept, IsBadHead, HasOtherType, IsNoRecord}
 use Rattle.shelf_check.specs.Forms.{form_of, own_name}
 
 -- a file whose name is of this form holds this block and nothing else, under the block's own name
@@ -22,14 +21,14 @@ pub record IsSingleOf (form : Form) (name text : List ℕ) (kept : Option (List 
 -- the first message is the record of a block of another name
 pub record IsMisnamed (form : Form) (name message : List ℕ) (at : ℕ) : Type 0 where
   pub block : Block
-  pub record_is : message ≡ record_text block
+  pub record_is : IsRecordOf message block
   pub other : name ≢ own_name form (slip block)
   pub place : at ≡ 0
 
 -- the first message is the record of a block of this name, and something follows it: the place is that of the second message's length
 pub record GoesOn (form : Form) (name text message : List ℕ) (more : List (List ℕ)) (at : ℕ) : Type 0 where
   pub block : Block
-  pub record_is : message ≡ record_text block
+  pub record_is : IsRecordOf message block
   pub named : name ≡ own_name form (slip block)
   pub follows : IsTrue (nat_lt 0 (length more) || is_some (container_fault text))
   pub place : at ≡ told (record_place text + length message)

@@ -3,7 +3,6 @@ use Rattle.std.specs.Prelude.{ℕ, ◌≡◌, ◌≢◌, ◌+◌, ◌⊎◌, Boo
 use Rattle.block_record.specs.declared.blocks.Block.{Block}
 use Rattle.block_record.specs.declared.blocks.BlockRef.{BlockRef}
 use Rattle.block_record.specs.Slips.{slip}
-use Rattle.block_record.specs.Records.{record_text}
 use Rattle.dbin_file.specs.Contents.{contents, told}
 use Rattle.one_block.specs.OneFiles.{container_fault}
 use Rattle.shelf_check.specs.declared.containers.FileContents.{FileContents}
@@ -11,7 +10,7 @@ use Rattle.shelf_check.specs.declared.faults.FileFault.{FileFault}
 use Rattle.shelf_check.specs.declared.faults.FileFault.TheVariants.{Bad, OtherType, Mem}
 use Rattle.shelf_check.specs.declared.forms.Form.{Form}
 use Rattle.shelf_check.specs.Bundles.{is_next, block_ref, tip_after, AreNext, IsNotNext, IsBadMessage}
-use Rattle.shelf_check.specs.Containers.{AreRecords, IsKept, IsNoRecord}
+use Rattle.shelf_check.specs.Containers.{IsRecordOf, AreRecords, IsKept, IsNoRecord}
 use Rattle.shelf_check.specs.Forms.{own_name}
 use Rattle.shelf_check.specs.Singles.{IsMisnamed}
 
@@ -44,13 +43,13 @@ DecodeRefused bytes place Mem = ⊤
 
 -- a record at this place was decoded, or refused at its first bad field
 abbrev pub Decodes : List ℕ → ℕ → Result Block FileFault → Type 0
-Decodes bytes place (Ok b) = bytes ≡ record_text b
+Decodes bytes place (Ok b) = IsRecordOf bytes b
 Decodes bytes place (Err fault) = DecodeRefused bytes place fault
 
 -- a message is the record of a block that may come next
 pub record IsNextRecord (base : ℕ) (before : Option BlockRef) (message : List ℕ) (tip : BlockRef) : Type 0 where
   pub block : Block
-  pub record_is : message ≡ record_text block
+  pub record_is : IsRecordOf message block
   pub next : IsTrue (is_next base before block)
   pub tip_is : tip ≡ block_ref block
 
@@ -101,14 +100,14 @@ WholeAnswers base first messages before ends end (Err fault) = WholeRefused base
 -- the only record of a file holds a block of this name
 pub record IsOnly (form : Form) (name bytes : List ℕ) (goes_on : Bool) : Type 0 where
   pub block : Block
-  pub record_is : bytes ≡ record_text block
+  pub record_is : IsRecordOf bytes block
   pub named : name ≡ own_name form (slip block)
   pub ends : goes_on ≡ false
 
 -- the record is of a block of this name, and something follows it
 pub record IsFollowed (form : Form) (name bytes : List ℕ) (place : ℕ) (goes_on : Bool) (at : ℕ) : Type 0 where
   pub block : Block
-  pub record_is : bytes ≡ record_text block
+  pub record_is : IsRecordOf bytes block
   pub named : name ≡ own_name form (slip block)
   pub follows : goes_on ≡ true
   pub at_is : at ≡ told (place + length bytes)

@@ -2,6 +2,7 @@
 
 ghost use Rattle.std.specs.Prelude.{◌≡◌, ◌≢◌, ◌++◌, [], IfOk, OnOk};
 ghost use Rattle.std.specs.Option.{option_map, unwrap_or};
+ghost use Rattle.block_record.specs.Records.{IsRecordable};
 ghost use Rattle.dbin_file.specs.Contents.{contents, told};
 ghost use Rattle.dbin_file.specs.Reader.{state_after};
 ghost use Rattle.one_block.specs.OneFiles.{fault_place as place_of_fault};
@@ -145,10 +146,24 @@ pub fn decode_at(alloc: Global, bytes: &[u8], place: u64) -> Result<Block, FileF
     ensures { Decodes bytes.now place result }
 {
     match decode(alloc, bytes) {
-        Ok(block) => Ok(block),
+        Ok(block) => {
+            show_recordable(&block);
+            Ok(block)
+        }
         Err(RecordFault::BadRecord { at }) => Err(FileFault::Bad {
             at: place.saturating_add(at as u64),
         }),
         Err(RecordFault::Mem) => Err(FileFault::Mem),
     }
+}
+
+/// Nothing but what each block has: its ids are ids, and its numbers have 64 bits.
+fn show_recordable(block: &Block)
+    ensures { IsRecordable block.now }
+{
+    let _num = block.num;
+    let _lib_num = block.lib_num;
+    let _time = block.time;
+    let _id = block.id.as_bytes();
+    let _parent_id = block.parent_id.as_bytes();
 }
