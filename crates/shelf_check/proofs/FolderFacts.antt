@@ -32,9 +32,9 @@ read_more folder files now kept last names i name block_type within item same r 
   singles = f.x ∷ r.singles;
   names_are = taken_more (λ (x : Single). x.name) f.x r.singles names i name within item (sym f.name_is) r.names_are;
   good =
-    let P : Option Files → Type 0 = λ fs. IsSingle folder fs last f.x in
-    let Q : Option (List ℕ) → Type 0 = λ k. IsSingle folder files k f.x in
-    (subst Q r.last_is (subst P same f.good), r.good);
+      let P : Option Files → Type 0 = λ fs. IsSingle folder fs last f.x in
+      let Q : Option (List ℕ) → Type 0 = λ k. IsSingle folder files k f.x in
+      (subst Q r.last_is (subst P same f.good), r.good);
   last_is = ap Some (sym f.type_is);
 }
 
@@ -46,10 +46,10 @@ read_first folder files now kept last names i name within item same r told fault
   names_are = cut_at names (names_of r.singles) i name within item r.names_are ∙ ap (λ (n : List ℕ). names_of r.singles ++ n ∷ drop (suc i) names) (sym f.told_is);
   good = r.good;
   bad =
-    let P : Option Files → Type 0 = λ fs. IsBadFile folder fs last told fault in
-    let Q : Option (List ℕ) → Type 0 = λ k. IsBadFile folder files k told fault in
-    let R : List ℕ → Type 0 = λ n. IsBadFile folder now last n fault in
-    subst Q r.last_is (subst P same (subst R (sym f.told_is) f.bad));
+      let P : Option Files → Type 0 = λ fs. IsBadFile folder fs last told fault in
+      let Q : Option (List ℕ) → Type 0 = λ k. IsBadFile folder files k told fault in
+      let R : List ℕ → Type 0 = λ n. IsBadFile folder now last n fault in
+      subst Q r.last_is (subst P same (subst R (sym f.told_is) f.bad));
 }
 
 -- all names were read

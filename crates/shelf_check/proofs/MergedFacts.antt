@@ -21,8 +21,8 @@ based_bases : (front : List (List ℕ)) (entries : List Entry) (name : List ℕ)
 based_bases front entries name base b is = record {
   names_are = ap (λ (l : List (List ℕ)). l ++ name ∷ []) b.names_are ∙ sym (map-append (λ (e : Entry). e.1) entries ((base, name) ∷ []));
   bases =
-    map-append merged_base_of front (name ∷ []) ∙ ap (λ (l : List (Option ℕ)). l ++ merged_base_of name ∷ []) b.bases
-    ∙ ap (λ (o : Option ℕ). map (λ (e : Entry). Some e.0) entries ++ o ∷ []) (sym is) ∙ sym (map-append (λ (e : Entry). Some e.0) entries ((base, name) ∷ []));
+      map-append merged_base_of front (name ∷ []) ∙ ap (λ (l : List (Option ℕ)). l ++ merged_base_of name ∷ []) b.bases
+      ∙ ap (λ (o : Option ℕ). map (λ (e : Entry). Some e.0) entries ++ o ∷ []) (sym is) ∙ sym (map-append (λ (e : Entry). Some e.0) entries ((base, name) ∷ []));
 }
 
 -- one more name
@@ -59,10 +59,10 @@ read_more files now entries i entry old new within item same r n = record {
   bundles = n.x ∷ r.bundles;
   entries_are = taken_more (λ (x : Bundle). (x.base, x.name)) n.x r.bundles entries i entry within item (pair_is n.x.base entry.0 n.x.name entry.1 n.base_is n.name_is) r.entries_are;
   good =
-    let P : Option Files → Type 0 = λ fs. IsBundleOn fs old.kept old.tip n.x in
-    let Q : Option (List ℕ) → Type 0 = λ k. IsBundleOn files k old.tip n.x in
-    let R : Option BlockRef → Type 0 = λ t. IsBundleOn files (kept_of r.bundles) t n.x in
-    (subst R r.tip (subst Q r.kept (subst P same n.good)), r.good);
+      let P : Option Files → Type 0 = λ fs. IsBundleOn fs old.kept old.tip n.x in
+      let Q : Option (List ℕ) → Type 0 = λ k. IsBundleOn files k old.tip n.x in
+      let R : Option BlockRef → Type 0 = λ t. IsBundleOn files (kept_of r.bundles) t n.x in
+      (subst R r.tip (subst Q r.kept (subst P same n.good)), r.good);
   kept = n.kept;
   tip = n.tip ∙ ap (λ (t : Option BlockRef). tip_after t n.x.blocks) r.tip;
   blocks = n.blocks ∙ ap (λ b. told (b + length n.x.blocks)) r.blocks ∙ told_more (block_count r.bundles) (length n.x.blocks);
@@ -80,11 +80,11 @@ read_first files now entries i entry old within item same r name fault f = recor
   entries_are = cut_at entries (entries_of r.bundles) i entry within item r.entries_are ∙ ap (λ (n : List ℕ). entries_of r.bundles ++ (entry.0, n) ∷ drop (suc i) entries) (sym f.told_is);
   good = r.good;
   bad =
-    let P : Option Files → Type 0 = λ fs. IsBadBundle fs old.kept old.tip entry.0 name fault in
-    let Q : Option (List ℕ) → Type 0 = λ k. IsBadBundle files k old.tip entry.0 name fault in
-    let R : List ℕ → Type 0 = λ n. IsBadBundle now old.kept old.tip entry.0 n fault in
-    let T : Option BlockRef → Type 0 = λ t. IsBadBundle files (kept_of r.bundles) t entry.0 name fault in
-    subst T r.tip (subst Q r.kept (subst P same (subst R (sym f.told_is) f.bad)));
+      let P : Option Files → Type 0 = λ fs. IsBadBundle fs old.kept old.tip entry.0 name fault in
+      let Q : Option (List ℕ) → Type 0 = λ k. IsBadBundle files k old.tip entry.0 name fault in
+      let R : List ℕ → Type 0 = λ n. IsBadBundle now old.kept old.tip entry.0 n fault in
+      let T : Option BlockRef → Type 0 = λ t. IsBadBundle files (kept_of r.bundles) t entry.0 name fault in
+      subst T r.tip (subst Q r.kept (subst P same (subst R (sym f.told_is) f.bad)));
 }
 
 -- all files were read

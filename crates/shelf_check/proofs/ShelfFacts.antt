@@ -21,10 +21,10 @@ first_sorted files now names shown found entries entries' same listed is based a
   names = names;
   listed = listed;
   first =
-    let P : List (List ℕ) → Type 0 = λ ns. AreBased ns found in
-    let Q : Option Files → Type 0 = λ fs. IsFirstOf fs entries' name fault in
-    let R : List Entry → Type 0 = λ l. IsFirstOf files l name fault in
-    inr (record { entries = entries; ordered = record { found = found; based = subst P is based; all = all; in_order = in_order }; first = subst R es (subst Q same first) });
+      let P : List (List ℕ) → Type 0 = λ ns. AreBased ns found in
+      let Q : Option Files → Type 0 = λ fs. IsFirstOf fs entries' name fault in
+      let R : List Entry → Type 0 = λ l. IsFirstOf files l name fault in
+      inr (record { entries = entries; ordered = record { found = found; based = subst P is based; all = all; in_order = in_order }; first = subst R es (subst Q same first) });
 }
 
 -- a fault in `one/`

@@ -59,20 +59,21 @@ module _ (form : Form) (name text : List ℕ) (kept : Option (List ℕ)) (file :
       only_ok answer only =
           let ends = or_parts (nat_lt 0 (length more)) (is_some (container_fault text)) only.0.ends in
           let P : List ℕ → Type 0 = λ t. FormedAnswers form name text kept (Ok t) in
-          subst P (sym only.1)
-          (only.0.block,
-          record {
-            holds = record {
-              typed = head.typed;
-              records = record {
-                texts = messages ∙ ap (λ (l : List (List ℕ)). m ∷ l) (empty_of more ends.0) ∙ ap (λ (x : List ℕ). x ∷ []) only.0.record_is.text;
-                recordable = (only.0.record_is.recordable, tt);
+          subst P (sym only.1) (
+            only.0.block,
+            record {
+              holds = record {
+                typed = head.typed;
+                records = record {
+                  texts = messages ∙ ap (λ (l : List (List ℕ)). m ∷ l) (empty_of more ends.0) ∙ ap (λ (x : List ℕ). x ∷ []) only.0.record_is.text;
+                  recordable = (only.0.record_is.recordable, tt);
+                };
+                whole = no_fault (container_fault text) ends.1;
               };
-              whole = no_fault (container_fault text) ends.1;
-            };
-            same = same;
-            named = only.0.named;
-          })
+              same = same;
+              named = only.0.named;
+            },
+          )
 
       only_refused : (e : FileFault) → OnlyRefused form name m (record_place text) follows e → FormedRefused form name text kept e
       only_refused Mem refused = tt

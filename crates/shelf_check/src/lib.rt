@@ -15,3 +15,6 @@ pub use check::{Report, check_shelf};
 pub use faults::{FileFault, LoadFault};
 pub use forms::Folder;
 pub use singles::check_single;
+
+#[cfg(test)]
+mod tests;

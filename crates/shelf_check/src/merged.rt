@@ -23,10 +23,7 @@ pub struct MergedRead {
 }
 
 /// Reads all files of merged blocks, by their bases as numbers, and tells how many they are.
-pub fn check_merged<S: Shelf>(
-    alloc: Global,
-    shelf: &mut S,
-) -> Result<(u64, MergedRead), LoadFault>
+pub fn check_merged<S: Shelf>(alloc: Global, shelf: &mut S) -> Result<(u64, MergedRead), LoadFault>
     ensures answer { FolderAnswers (S.files shelf.old)
         (S.shelf_faults shelf.old) (S.shelf_faults shelf.new) result }
     ensures files { S.files shelf.new ≡ S.files shelf.old }

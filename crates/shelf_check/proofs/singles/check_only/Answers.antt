@@ -22,9 +22,12 @@ returns-then-goes_on c = inr (inr (record {
 }))
 
 pub returns : goal.returns
-returns c = (record {
-  block = c.in_ok-block.block;
-  record_is = rw c.as_bytes.ensures at c.in_ok-block.ensures;
-  named = c.in_ok-fits.ensures.0 c.if-not-branch.false ∙ ap (λ s. own_name c.args.form.now s) c.into_slip-slip.ensures;
-  ends = c.if-goes_on.false;
-}, refl)
+returns c = (
+  record {
+    block = c.in_ok-block.block;
+    record_is = rw c.as_bytes.ensures at c.in_ok-block.ensures;
+    named = c.in_ok-fits.ensures.0 c.if-not-branch.false ∙ ap (λ s. own_name c.args.form.now s) c.into_slip-slip.ensures;
+    ends = c.if-goes_on.false;
+  },
+  refl,
+)
