@@ -1,11 +1,11 @@
 -- The head of a file, as it was read; and tests of counts and faults.
-use Rattle.std.proofs.Common.{arith, ◌≡◌, ◌<◌, ◌+◌, ◌==◌, ◌&&◌, ◌||◌, ℕ, zero, suc, Bool, true, false, not, nat_lt, IsTrue, List, [], ◌∷◌, length, Option, Some, None, refl, sym, ap, ◌∙◌}
+use Rattle.std.proofs.Common.{arith, ◌≡◌, ◌==◌, ◌&&◌, ◌||◌, ℕ, zero, suc, Bool, true, false, not, nat_lt, IsTrue, List, length, Option, Some, None, refl, sym, ap, ◌∙◌}
 use Rattle.std.specs.Option.{is_some, option_map, unwrap_or}
-use Rattle.std.proofs.lemmas.Bool.{ltb-false, ltb-true, lt-ltb}
+use Rattle.std.proofs.lemmas.Bool.{lt-ltb}
 use Rattle.std.proofs.lemmas.Slice.Eq.{bytes_eq-Decides}
 use Rattle.std.specs.Str.{bytes_eq}
-use Rattle.dbin_file.specs.Contents.{contents, told}
-use Rattle.one_block.specs.OneFiles.{container_fault, fault_place}
+use Rattle.dbin_file.specs.Contents.{told}
+use Rattle.one_block.specs.OneFiles.{fault_place}
 use Rattle.shelf_check.specs.declared.containers.FileContents.{FileContents}
 use Rattle.shelf_check.specs.Containers.{IsKept, HasHead, IsBadHead, HasOtherType}
 use Rattle.shelf_check.specs.Steps.{HasContents, IsOtherThan}

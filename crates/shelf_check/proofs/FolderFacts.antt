@@ -1,13 +1,13 @@
 -- The files of a folder, one after another.
-use Rattle.std.proofs.Common.{arith, ◌≡◌, ◌<◌, ◌≤◌, ◌+◌, ℕ, suc, List, [], ◌∷◌, ◌++◌, length, map, reverse, take, drop, get_or, Option, Some, None, Result, Ok, Err, refl, sym, ap, subst, ◌∙◌}
+use Rattle.std.proofs.Common.{arith, ◌≡◌, ◌<◌, ◌≤◌, ◌+◌, ℕ, suc, List, [], ◌∷◌, ◌++◌, length, reverse, take, drop, get_or, Option, Some, None, Ok, refl, sym, ap, subst, ◌∙◌}
 use Rattle.std.proofs.lemmas.List.{length-map, length-reverse, take_all}
 use Rattle.outer_world.specs.Files.{Files}
 use Rattle.shelf_check.specs.declared.faults.FileFault.{FileFault}
 use Rattle.shelf_check.specs.declared.forms.Folder.{Folder}
 use Rattle.shelf_check.specs.declared.forms.Form.{Form}
 use Rattle.shelf_check.specs.Forms.{form_of}
-use Rattle.shelf_check.specs.Singles.{IsSingleOf, AnswersBy}
-use Rattle.shelf_check.specs.Folders.{HasText, Single, IsSingle, kept_after, AreSingles, names_of, IsBadFile, IsFirstOf, IsFileRead, IsRefusedFile, AreRead}
+use Rattle.shelf_check.specs.Singles.{AnswersBy}
+use Rattle.shelf_check.specs.Folders.{HasText, Single, IsSingle, names_of, IsBadFile, IsFirstOf, IsFileRead, IsRefusedFile, AreRead}
 use Rattle.shelf_check.proofs.ListFacts.{taken_more, cut_at}
 
 -- a file that was read

@@ -1,5 +1,5 @@
 -- Files of merged blocks, one after another.
-use Rattle.std.proofs.Common.{arith, ◌≡◌, ◌<◌, ◌≤◌, ◌+◌, ◌-◌, ◌^◌, min, ℕ, suc, List, [], ◌∷◌, ◌++◌, length, map, reverse, take, drop, get_or, Option, Some, None, Result, Ok, Err, refl, sym, ap, subst, ◌∙◌}
+use Rattle.std.proofs.Common.{arith, ◌≡◌, ◌<◌, ◌≤◌, ◌+◌, ◌-◌, ◌^◌, min, ℕ, suc, List, [], ◌∷◌, ◌++◌, length, map, reverse, take, drop, get_or, Option, Some, None, refl, sym, ap, subst, ◌∙◌}
 use Rattle.std.proofs.lemmas.List.{length-map, length-reverse, take_more, take_all, map-append}
 use Rattle.block_record.specs.declared.blocks.BlockRef.{BlockRef}
 use Rattle.dbin_file.specs.Contents.{told}
@@ -11,7 +11,7 @@ use Rattle.shelf_check.specs.declared.merged.MergedRead.{MergedRead}
 use Rattle.shelf_check.specs.declared.bundles.BundleRead.{BundleRead}
 use Rattle.shelf_check.specs.Bundles.{tip_after, IsBundleRead}
 use Rattle.shelf_check.specs.Folders.{HasText}
-use Rattle.shelf_check.specs.Merged.{Entry, AreBased, IsOtherName, Bundle, IsBundleOn, kept_of, tip_of, block_count, AreBundles, entries_of, IsBadBundle, IsFirstOf, IsNextRead, IsRefusedBundle, AreRead}
+use Rattle.shelf_check.specs.Merged.{Entry, AreBased, IsOtherName, Bundle, IsBundleOn, kept_of, block_count, entries_of, IsBadBundle, IsFirstOf, IsNextRead, IsRefusedBundle, AreRead}
 use Rattle.shelf_check.proofs.ListFacts.{taken_more, cut_at}
 
 pub based_none : (names : List (List ℕ)) → AreBased (take 0 names) []

@@ -1,5 +1,5 @@
 -- Refusals that are handed on.
-use Rattle.std.proofs.Common.{arith, ◌≡◌, ◌≤◌, ◌⊎◌, inl, inr, ℕ, List, refl, sym, subst}
+use Rattle.std.proofs.Common.{arith, ◌≤◌, inl, inr, ℕ, List, sym, subst}
 use Rattle.outer_world.specs.Shelves.{RefusesBy}
 use Rattle.outer_world.specs.declared.shelves.ShelfFail.{ShelfFail}
 use Rattle.outer_world.specs.declared.shelves.ShelfFail.TheVariants as fail

@@ -1,5 +1,5 @@
 -- The first fault of a folder, as that of the shelf.
-use Rattle.std.proofs.Common.{◌≡◌, inl, inr, ℕ, List, Option, refl, sym, ap, subst, ◌∙◌}
+use Rattle.std.proofs.Common.{◌≡◌, inl, inr, ℕ, List, Option, ap, subst, ◌∙◌}
 use Rattle.std.specs.Prelude.{codes, IsPermutation, IsSorted}
 use Rattle.outer_world.specs.Files.{Files}
 use Rattle.outer_world.specs.Shelves.{AreNamesOf}
@@ -10,7 +10,7 @@ use Rattle.shelf_check.specs.declared.forms.Folder.TheVariants.{One, Forked}
 use Rattle.shelf_check.specs.Folders.{IsFolder, kept_after}
 use Rattle.shelf_check.specs.Folders.{IsFirstIn as IsFirstInFolder}
 use Rattle.shelf_check.specs.Folders.{IsFolderRead as IsOneRead}
-use Rattle.shelf_check.specs.Merged.{Entry, entry_order, AreBased, IsFirstOf, IsFolderRead, kept_of}
+use Rattle.shelf_check.specs.Merged.{Entry, entry_order, AreBased, IsFirstOf, IsFolderRead}
 use Rattle.shelf_check.specs.Merged.{IsFirstIn as IsFirstInMerged}
 use Rattle.shelf_check.specs.Shelf.{IsFirstFault}
 

@@ -1,11 +1,11 @@
 -- What the first message of a file of one block tells of the file.
-use Rattle.std.proofs.Common.{arith, ◌≡◌, ◌+◌, ◌||◌, inl, inr, ℕ, Bool, true, false, nat_lt, IsTrue, List, [], ◌∷◌, length, Option, Some, None, Result, Ok, Err, refl, sym, ap, subst, ◌∙◌}
+use Rattle.std.proofs.Common.{arith, ◌≡◌, ◌+◌, ◌||◌, inl, inr, ℕ, Bool, false, nat_lt, List, [], ◌∷◌, length, Option, Some, None, Result, Ok, Err, refl, sym, ap, subst, ◌∙◌}
 use Rattle.std.specs.Prelude.{slice_get}
 use Rattle.std.specs.Option.{is_some, option_map, unwrap_or}
 use Rattle.std.proofs.lemmas.Bool.{or_parts, ltb-false, lt-ltb}
 use Rattle.std.proofs.lemmas.List.{nil_from_length}
 use Rattle.dbin_file.specs.Contents.{contents, told}
-use Rattle.one_block.specs.OneFiles.{container_fault, fault_place, record_place, empty_place}
+use Rattle.one_block.specs.OneFiles.{container_fault, fault_place, record_place}
 use Rattle.shelf_check.specs.declared.containers.FileContents.{FileContents}
 use Rattle.shelf_check.specs.declared.faults.FileFault.{FileFault}
 use Rattle.shelf_check.specs.declared.faults.FileFault.TheVariants.{Bad, OtherType, Mem}

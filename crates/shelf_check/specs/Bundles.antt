@@ -1,5 +1,5 @@
 -- Files of merged blocks: each block the child of the one before it, over all of them.
-use Rattle.std.specs.Prelude.{ℕ, ◌≡◌, ◌+◌, ◌-◌, ◌%◌, ◌==◌, ◌&&◌, ◌||◌, ◌⊎◌, nat_lt, Bool, true, IsTrue, IsFalse, List, [], ◌∷◌, ◌++◌, length, map, reverse, Option, None, Some, ⊤, Result, Ok, Err}
+use Rattle.std.specs.Prelude.{ℕ, ◌≡◌, ◌+◌, ◌-◌, ◌%◌, ◌==◌, ◌&&◌, ◌||◌, ◌⊎◌, nat_lt, Bool, true, IsTrue, IsFalse, List, [], ◌∷◌, ◌++◌, length, Option, None, Some, ⊤, Result, Ok, Err}
 use Rattle.std.specs.Option.{is_some}
 use Rattle.block_record.specs.Ids.{same_id}
 use Rattle.block_record.specs.declared.blocks.Block.{Block}

@@ -1,5 +1,5 @@
 -- Files of blocks: containers whose messages are records, all of one type.
-use Rattle.std.specs.Prelude.{ℕ, ◌≡◌, ◌+◌, List, [], map, reverse, Option, None, Some, ⊤}
+use Rattle.std.specs.Prelude.{ℕ, ◌≡◌, ◌+◌, List, map, reverse, Option, None, Some, ⊤}
 use Rattle.block_record.specs.declared.blocks.Block.{Block}
 use Rattle.std.specs.List.{AllByRecursion}
 use Rattle.block_record.specs.Records.{record_text, record_fault, IsRecordable}

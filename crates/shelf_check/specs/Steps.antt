@@ -1,5 +1,5 @@
 -- The steps by which a file is read.
-use Rattle.std.specs.Prelude.{ℕ, ◌≡◌, ◌≢◌, ◌+◌, ◌⊎◌, Bool, true, false, IsTrue, List, [], ◌∷◌, length, Option, None, Some, ⊤, Result, Ok, Err}
+use Rattle.std.specs.Prelude.{ℕ, ◌≡◌, ◌+◌, ◌⊎◌, Bool, true, false, IsTrue, List, length, Option, None, Some, ⊤, Result, Ok, Err}
 use Rattle.block_record.specs.declared.blocks.Block.{Block}
 use Rattle.block_record.specs.declared.blocks.BlockRef.{BlockRef}
 use Rattle.block_record.specs.Slips.{slip}

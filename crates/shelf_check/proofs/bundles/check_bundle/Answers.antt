@@ -1,7 +1,6 @@
-use Rattle.std.proofs.Common.{ap, sym, ◌∙◌, ◌+◌, List, ℕ, length, subst, rules, Err, Result}
+use Rattle.std.proofs.Common.{ap, ◌+◌, List, ℕ, length, subst, rules}
 use Rattle.std.proofs.lemmas.Result.{err_from_is_err_and}
-use Rattle.shelf_check.specs.Bundles.{BundleAnswers}
-use Rattle.shelf_check.specs.Steps.{WholeRefused, AreLinked}
+use Rattle.shelf_check.specs.Steps.{WholeRefused}
 use Rattle.shelf_check.proofs.LinkFacts.{whole_refused, whole_read}
 use Rattle.shelf_check.proofs.bundles.check_bundle.Goals as goal
 

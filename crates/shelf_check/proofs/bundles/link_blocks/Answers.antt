@@ -1,4 +1,4 @@
-use Rattle.std.proofs.Common.{ap, sym, ◌∙◌, ◌+◌, List, ℕ, length, arith, subst, Err}
+use Rattle.std.proofs.Common.{ap, ◌∙◌, ◌+◌, List, ℕ, length, subst}
 use Rattle.std.proofs.lemmas.Result.{err_from_is_err_and}
 use Rattle.dbin_file.specs.Contents.{told}
 use Rattle.shelf_check.specs.Steps.{NextRefused, IsNextRecord}
