@@ -6,8 +6,14 @@ use Rattle.std.proofs.lemmas.Slice.Eq.{bytes_eq-Decides}
 use Rattle.std.specs.Str.{bytes_eq}
 use Rattle.dbin_file.specs.Contents.{told}
 use Rattle.one_block.specs.OneFiles.{fault_place}
+use Rattle.block_record.specs.declared.blocks.Block.{Block}
+use Rattle.block_record.specs.declared.faults.RecordFault.{RecordFault}
+use Rattle.block_record.specs.declared.faults.RecordFault.TheVariants.{Mem as RecordMem}
+use Rattle.block_record.specs.Reading.{UnlessMem}
+use Rattle.block_record.specs.Records.{record_text, IsRecordable}
+use Rattle.std.specs.Prelude.{Result, Ok, Err}
 use Rattle.shelf_check.specs.declared.containers.FileContents.{FileContents}
-use Rattle.shelf_check.specs.Containers.{IsKept, HasHead, IsBadHead, HasOtherType}
+use Rattle.shelf_check.specs.Containers.{IsRecordOf, IsKept, HasHead, IsBadHead, HasOtherType}
 use Rattle.shelf_check.specs.Steps.{HasContents, IsOtherThan}
 
 -- the header was read
@@ -43,3 +49,13 @@ pub not_whole : (n : ℕ) (o : Bool) → (nat_lt 0 n && not o) ≡ false → IsT
 not_whole zero o e = refl
 not_whole (suc n) true e = or_true (suc n == 0)
 not_whole (suc n) false e = absurd (let t = lt-ltb 0 (suc n) (omega arith) in let clash = sym (rw t at e) in cc clash)
+
+-- a record that was decoded is that of no other block
+pub decoded : (bytes : List ℕ) (b : Block) → bytes ≡ record_text b → IsRecordable b → ((other : Block) → IsRecordable other → bytes ≡ record_text other → UnlessMem (Ok b) ((let r : Result Block RecordFault = Ok b in r) ≡ Ok other)) → IsRecordOf bytes b
+decoded bytes b text recordable back = record { text = text; readable = record { recordable = recordable; only = only_one } }
+  where
+    not_mem : (let r : Result Block RecordFault = Ok b in r) ≡ Err RecordMem → ⊥
+    not_mem e = cc e
+
+    only_one : (other : Block) → IsRecordable other → record_text b ≡ record_text other → other ≡ b
+    only_one other r same = let e = back other r (text ∙ same) not_mem in cc e

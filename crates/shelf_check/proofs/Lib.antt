@@ -6,3 +6,4 @@ mod RefusalFacts
 mod FolderFacts
 mod MergedFacts
 mod ShelfFacts
+mod LawFacts

@@ -26,7 +26,7 @@ pub record IsLinkedTo (base first : ℕ) (before : Option BlockRef) (messages : 
   pub at_is : at ≡ told (place_after first blocks)
 
 pub linked_none : (base first : ℕ) (before : Option BlockRef) (messages : List (List ℕ)) → first < 2 ^ 64 → IsLinkedTo base first before (take 0 messages) before first
-linked_none base first before messages small = record { blocks = []; records = record { texts = refl; recordable = tt }; next = tt; tip_is = refl; at_is = omega arith }
+linked_none base first before messages small = record { blocks = []; records = record { texts = refl; readable = tt }; next = tt; tip_is = refl; at_is = omega arith }
 
 told_more : (x y : ℕ) → min (min x (2 ^ 64 - 1) + y) (2 ^ 64 - 1) ≡ min (x + y) (2 ^ 64 - 1)
 told_more x y = omega arith
@@ -38,7 +38,7 @@ linked_more base first before messages i m tip next at at' within item l n at_is
   blocks = n.block ∷ l.blocks;
   records = record {
     texts = taken_more record_text n.block l.blocks messages i m within item n.record_is.text l.records.texts;
-    recordable = (n.record_is.recordable, l.records.recordable);
+    readable = (n.record_is.readable, l.records.readable);
   };
   next = (subst (λ (t : Option BlockRef). IsTrue (is_next base t n.block)) l.tip_is n.next, l.next);
   tip_is = ap Some n.tip_is;
@@ -47,7 +47,7 @@ linked_more base first before messages i m tip next at at' within item l n at_is
 
 module _ (base first : ℕ) (before : Option BlockRef) (messages : List (List ℕ)) (i : ℕ) (m : List ℕ) (tip : Option BlockRef) (at : ℕ) (within : i < length messages) (item : m ≡ get_or messages i m) (l : IsLinkedTo base first before (take i messages) tip at) where
   bad_record : (at' : ℕ) → IsNoRecord at m at' → IsNoRecord (place_after first l.blocks) m at'
-  bad_record at' n = record { byte = n.byte; fault = n.fault; at_is = n.at_is ∙ ap (λ a. told (a + n.byte)) l.at_is ∙ told_more (place_after first l.blocks) n.byte }
+  bad_record at' n = record { none = n.none; byte = n.byte; fault = n.fault; at_is = n.at_is ∙ ap (λ a. told (a + n.byte)) l.at_is ∙ told_more (place_after first l.blocks) n.byte }
 
   not_next : (at' : ℕ) → IsNotNext base tip at m at' → IsNotNext base (tip_after before l.blocks) (place_after first l.blocks) m at'
   not_next at' n = record {
@@ -71,14 +71,14 @@ module _ (base first : ℕ) (before : Option BlockRef) (messages : List (List �
 
 -- all messages are linked
 pub all_linked : (base first : ℕ) (before : Option BlockRef) (messages : List (List ℕ)) (tip : Option BlockRef) (at n : ℕ) → n ≡ length messages → IsLinkedTo base first before (take n messages) tip at → AreLinked base before messages tip
-all_linked base first before messages tip at n all l = record { blocks = l.blocks; records = record { texts = sym (whole messages n all) ∙ l.records.texts; recordable = l.records.recordable }; next = l.next; tip_is = l.tip_is }
+all_linked base first before messages tip at n all l = record { blocks = l.blocks; records = record { texts = sym (whole messages n all) ∙ l.records.texts; readable = l.records.readable }; next = l.next; tip_is = l.tip_is }
   where
     whole : (ms : List (List ℕ)) (k : ℕ) → k ≡ length ms → take k ms ≡ ms
     whole ms k e = take_all k ms (omega arith)
 
 -- ---- the whole file
 
-length_records : (messages : List (List ℕ)) (blocks : List Block) → AreRecords messages blocks → length messages ≡ length blocks
+pub length_records : (messages : List (List ℕ)) (blocks : List Block) → AreRecords messages blocks → length messages ≡ length blocks
 length_records messages blocks records = ap length records.texts ∙ length-map (reverse blocks) record_text ∙ length-reverse blocks
 
 module _ (base : ℕ) (text : List ℕ) (kept : Option (List ℕ)) (before : Option BlockRef) (file : FileContents) (end : ℕ) (has : HasContents text file) (end_is : end ≡ unwrap_or (option_map fault_place file.fault) (told (length text))) where
@@ -97,7 +97,7 @@ module _ (base : ℕ) (text : List ℕ) (kept : Option (List ℕ)) (before : Opt
     bad_end : (at : ℕ) → IsBadAfter base file.messages.items before ends end at → IsBadEnd base text before at
     bad_end at b = record {
       blocks = b.linked.blocks;
-      records = record { texts = sym has.messages ∙ b.linked.records.texts; recordable = b.linked.records.recordable };
+      records = record { texts = sym has.messages ∙ b.linked.records.texts; readable = b.linked.records.readable };
       next = b.linked.next;
       ends = by_cause b.not_ended;
       place = b.at_is ∙ end_is ∙ ap (λ f. unwrap_or (option_map fault_place f) (told (length text))) has.fault;
@@ -128,7 +128,7 @@ module _ (base : ℕ) (text : List ℕ) (kept : Option (List ℕ)) (before : Opt
         record {
           blocks = l.blocks;
           bundle = record {
-            holds = record { typed = head.typed; records = record { texts = sym has.messages ∙ l.records.texts; recordable = l.records.recordable }; whole = sym has.fault ∙ none_of file.fault parts.1 };
+            holds = record { typed = head.typed; records = record { texts = sym has.messages ∙ l.records.texts; readable = l.records.readable }; whole = sym has.fault ∙ none_of file.fault parts.1 };
             some = ap (λ n. nat_lt 0 n) (sym (length_records file.messages.items l.blocks l.records)) ∙ parts.0;
             same = same;
             next = l.next;

@@ -66,7 +66,7 @@ module _ (form : Form) (name text : List ℕ) (kept : Option (List ℕ)) (file :
                 typed = head.typed;
                 records = record {
                   texts = messages ∙ ap (λ (l : List (List ℕ)). m ∷ l) (empty_of more ends.0) ∙ ap (λ (x : List ℕ). x ∷ []) only.0.record_is.text;
-                  recordable = (only.0.record_is.recordable, tt);
+                  readable = (only.0.record_is.readable, tt);
                 };
                 whole = no_fault (container_fault text) ends.1;
               };

@@ -6,15 +6,20 @@ use Rattle.block_record.specs.Records.{record_text, record_fault, IsRecordable}
 use Rattle.dbin_file.specs.Contents.{contents, told}
 use Rattle.one_block.specs.OneFiles.{container_fault, empty_place}
 
--- a message is the record of this block, whose ids are ids and whose numbers have 64 bits, so that no other block has this record
+-- a block is the only one with its record: its ids are ids, and its numbers have 64 bits
+pub record IsReadable (b : Block) : Type 0 where
+  pub recordable : IsRecordable b
+  pub only : (other : Block) → IsRecordable other → record_text b ≡ record_text other → other ≡ b
+
+-- a message is the record of this block
 pub record IsRecordOf (message : List ℕ) (b : Block) : Type 0 where
   pub text : message ≡ record_text b
-  pub recordable : IsRecordable b
+  pub readable : IsReadable b
 
 -- messages are the records of these blocks, the newest block first
 pub record AreRecords (messages : List (List ℕ)) (blocks : List Block) : Type 0 where
   pub texts : messages ≡ map record_text (reverse blocks)
-  pub recordable : AllByRecursion IsRecordable blocks
+  pub readable : AllByRecursion IsReadable blocks
 
 -- a text is a container of this type that holds these blocks, and nothing else
 pub record HoldsBlocks (text block_type : List ℕ) (blocks : List Block) : Type 0 where
@@ -43,8 +48,9 @@ pub record HasOtherType (text : List ℕ) (kept : Option (List ℕ)) (held offer
   pub kept_is : kept ≡ Some held
   pub other : held ≡ offered → ⊥
 
--- a message that stands at this place is no record: its first bad field is there
+-- a message that stands at this place is no block's record: its first bad field is there
 pub record IsNoRecord (place : ℕ) (message : List ℕ) (at : ℕ) : Type 0 where
+  pub none : (b : Block) → IsRecordable b → message ≡ record_text b → ⊥
   pub byte : ℕ
   pub fault : record_fault message ≡ Some byte
   pub at_is : at ≡ told (place + byte)

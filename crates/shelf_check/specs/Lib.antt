@@ -7,3 +7,4 @@ pub mod Refusals
 pub mod Folders
 pub mod Merged
 pub mod Shelf
+pub mod Laws

@@ -7,6 +7,7 @@ mod containers;
 mod faults;
 mod folders;
 mod forms;
+mod laws;
 mod merged;
 mod singles;
 
@@ -14,6 +15,7 @@ pub use bundles::{BundleRead, check_bundle};
 pub use check::{Report, check_shelf};
 pub use faults::{FileFault, LoadFault};
 pub use forms::Folder;
+pub use laws::good_files_are_taken;
 pub use singles::check_single;
 
 #[cfg(test)]
