@@ -1,0 +1,61 @@
+-- The head of a file, as it was read; and tests of counts and faults.
+use Rattle.std.proofs.Common.{arith, ◌≡◌, ◌==◌, ◌&&◌, ◌||◌, ℕ, zero, suc, Bool, true, false, not, nat_lt, IsTrue, List, length, Option, Some, None, refl, sym, ap, ◌∙◌}
+use Rattle.std.specs.Option.{is_some, option_map, unwrap_or}
+use Rattle.std.proofs.lemmas.Bool.{lt-ltb}
+use Rattle.std.proofs.lemmas.Slice.Eq.{bytes_eq-Decides}
+use Rattle.std.specs.Str.{bytes_eq}
+use Rattle.dbin_file.specs.Contents.{told}
+use Rattle.one_block.specs.OneFiles.{fault_place}
+use Rattle.block_record.specs.declared.blocks.Block.{Block}
+use Rattle.block_record.specs.declared.faults.RecordFault.{RecordFault}
+use Rattle.block_record.specs.declared.faults.RecordFault.TheVariants.{Mem as RecordMem}
+use Rattle.block_record.specs.Reading.{UnlessMem}
+use Rattle.block_record.specs.Records.{record_text, IsRecordable}
+use Rattle.std.specs.Prelude.{Result, Ok, Err}
+use Rattle.shelf_check.specs.declared.containers.FileContents.{FileContents}
+use Rattle.shelf_check.specs.Containers.{IsRecordOf, IsKept, HasHead, IsBadHead, HasOtherType}
+use Rattle.shelf_check.specs.Steps.{HasContents, IsOtherThan}
+
+-- the header was read
+pub has_head : (text : List ℕ) (kept : Option (List ℕ)) (file : FileContents) (block_type : List ℕ) → HasContents text file → file.block_type ≡ Some block_type → IsKept kept block_type → HasHead text kept block_type
+has_head text kept file block_type has found same = record { typed = sym has.block_type ∙ found; same = same }
+
+-- it is bad or cut
+pub bad_head : (text : List ℕ) (file : FileContents) (end at : ℕ) → HasContents text file → end ≡ unwrap_or (option_map fault_place file.fault) (told (length text)) → file.block_type ≡ None → at ≡ end → IsBadHead text at
+bad_head text file end at has end_is none at_is = record {
+  untyped = sym has.block_type ∙ none;
+  place = at_is ∙ end_is ∙ ap (λ f. unwrap_or (option_map fault_place f) (told (length text))) has.fault;
+}
+
+-- the file has another type
+pub other_type : (text : List ℕ) (kept : Option (List ℕ)) (file : FileContents) (held offered : List ℕ) → HasContents text file → IsOtherThan file.block_type kept held offered → HasOtherType text kept held offered
+other_type text kept file held offered has o = record { typed = sym has.block_type ∙ o.found_is; kept_is = o.kept_is; other = o.other }
+
+-- texts that a test finds different are
+pub differ : (held offered : List ℕ) → bytes_eq held offered ≡ false → held ≡ offered → ⊥
+differ held offered e same = let t = (bytes_eq-Decides held offered).1 same in let clash = sym e ∙ t in cc clash
+
+-- no option where it is none
+pub none_of : {A : Type 0} (o : Option A) → not (is_some o) ≡ true → o ≡ None
+none_of None e = refl
+none_of (Some x) e = absurd (cc e)
+
+or_true : (b : Bool) → (b || true) ≡ true
+or_true true = refl
+or_true false = refl
+
+-- a list is empty or a fault is there, where not both are well
+pub not_whole : (n : ℕ) (o : Bool) → (nat_lt 0 n && not o) ≡ false → IsTrue ((n == 0) || o)
+not_whole zero o e = refl
+not_whole (suc n) true e = or_true (suc n == 0)
+not_whole (suc n) false e = absurd (let t = lt-ltb 0 (suc n) (omega arith) in let clash = sym (rw t at e) in cc clash)
+
+-- a record that was decoded is that of no other block
+pub decoded : (bytes : List ℕ) (b : Block) → bytes ≡ record_text b → IsRecordable b → ((other : Block) → IsRecordable other → bytes ≡ record_text other → UnlessMem (Ok b) ((let r : Result Block RecordFault = Ok b in r) ≡ Ok other)) → IsRecordOf bytes b
+decoded bytes b text recordable back = record { text = text; readable = record { recordable = recordable; only = only_one } }
+  where
+    not_mem : (let r : Result Block RecordFault = Ok b in r) ≡ Err RecordMem → ⊥
+    not_mem e = cc e
+
+    only_one : (other : Block) → IsRecordable other → record_text b ≡ record_text other → other ≡ b
+    only_one other r same = let e = back other r (text ∙ same) not_mem in cc e

@@ -1,0 +1,105 @@
+-- What the first message of a file of one block tells of the file.
+use Rattle.std.proofs.Common.{arith, ◌≡◌, ◌+◌, ◌||◌, inl, inr, ℕ, Bool, false, nat_lt, List, [], ◌∷◌, length, Option, Some, None, Result, Ok, Err, refl, sym, ap, subst, ◌∙◌}
+use Rattle.std.specs.Prelude.{slice_get}
+use Rattle.std.specs.Option.{is_some, option_map, unwrap_or}
+use Rattle.std.proofs.lemmas.Bool.{or_parts, ltb-false, lt-ltb}
+use Rattle.std.proofs.lemmas.List.{nil_from_length}
+use Rattle.dbin_file.specs.Contents.{contents, told}
+use Rattle.one_block.specs.OneFiles.{container_fault, fault_place, record_place}
+use Rattle.shelf_check.specs.declared.containers.FileContents.{FileContents}
+use Rattle.shelf_check.specs.declared.faults.FileFault.{FileFault}
+use Rattle.shelf_check.specs.declared.faults.FileFault.TheVariants.{Bad, OtherType, Mem}
+use Rattle.shelf_check.specs.declared.forms.Form.{Form}
+use Rattle.shelf_check.specs.Containers.{HasHead, IsKept}
+use Rattle.shelf_check.specs.Singles.{IsBadAfterHead, FormedRefused, FormedAnswers}
+use Rattle.shelf_check.specs.Steps.{HasContents, HeadRefused, OnlyRefused, OnlyAnswers}
+use Rattle.shelf_check.proofs.ContainerFacts.{has_head, bad_head, other_type}
+
+some_is : {A : Type 0} (x y : A) → (let a : Option A = Some x in a) ≡ Some y → x ≡ y
+some_is x y e = cc e
+
+-- more than one message, seen from the first
+more_than_one : (m : List ℕ) (more : List (List ℕ)) → nat_lt 1 (length (m ∷ more)) ≡ nat_lt 0 (length more)
+more_than_one m more = by_list more
+  where
+    by_list : (l : List (List ℕ)) → nat_lt 1 (length (m ∷ l)) ≡ nat_lt 0 (length l)
+    by_list [] = refl
+    by_list (x ∷ l) = lt-ltb 1 (length (m ∷ x ∷ l)) (omega arith) ∙ sym (lt-ltb 0 (length (x ∷ l)) (omega arith))
+
+no_fault : {A : Type 0} (o : Option A) → is_some o ≡ false → o ≡ None
+no_fault None e = refl
+no_fault (Some x) e = absurd (cc e)
+
+empty_of : (l : List (List ℕ)) → nat_lt 0 (length l) ≡ false → l ≡ []
+empty_of l e = nil_from_length l (let none = ltb-false 0 (length l) e in omega arith)
+
+module _ (form : Form) (name text : List ℕ) (kept : Option (List ℕ)) (file : FileContents) (end : ℕ) (has : HasContents text file) (end_is : end ≡ unwrap_or (option_map fault_place file.fault) (told (length text))) where
+  pub head_refused : (e : FileFault) → HeadRefused file.block_type kept end e → FormedRefused form name text kept e
+  head_refused (Bad at) refused = inl (bad_head text file end at has end_is refused.0 refused.1)
+  head_refused (OtherType held offered) refused = other_type text kept file held offered has refused
+  head_refused Mem refused = tt
+
+  module _ (block_type : List ℕ) (found : file.block_type ≡ Some block_type) (same : IsKept kept block_type) where
+    head : HasHead text kept block_type
+    head = has_head text kept file block_type has found same
+
+    -- the file has no message
+    pub no_message : slice_get file.messages.items 0 ≡ None → FormedRefused form name text kept (Bad end)
+    no_message none = inr (record { block_type = block_type; head = head; body = by_list (contents text).messages refl })
+      where
+        by_list : (ms : List (List ℕ)) → (contents text).messages ≡ ms → IsBadAfterHead form name text (contents text).messages end
+        by_list [] e = subst (λ (l : List (List ℕ)). IsBadAfterHead form name text l end) (sym e) (end_is ∙ ap (λ f. unwrap_or (option_map fault_place f) (told (length text))) has.fault)
+        by_list (m ∷ more) e = absurd (let got : slice_get file.messages.items 0 ≡ Some m = ap (λ (l : List (List ℕ)). slice_get l 0) (has.messages ∙ e) in let clash = sym got ∙ none in cc clash)
+
+    module _ (m : List ℕ) (more : List (List ℕ)) (messages : (contents text).messages ≡ m ∷ more) where
+      abbrev follows : Bool
+      follows = nat_lt 0 (length more) || is_some (container_fault text)
+
+      only_ok : (answer : List ℕ) → OnlyAnswers form name m (record_place text) follows block_type (Ok answer) → FormedAnswers form name text kept (Ok answer)
+      only_ok answer only =
+          let ends = or_parts (nat_lt 0 (length more)) (is_some (container_fault text)) only.0.ends in
+          let P : List ℕ → Type 0 = λ t. FormedAnswers form name text kept (Ok t) in
+          subst P (sym only.1) (
+            only.0.block,
+            record {
+              holds = record {
+                typed = head.typed;
+                records = record {
+                  texts = messages ∙ ap (λ (l : List (List ℕ)). m ∷ l) (empty_of more ends.0) ∙ ap (λ (x : List ℕ). x ∷ []) only.0.record_is.text;
+                  readable = (only.0.record_is.readable, tt);
+                };
+                whole = no_fault (container_fault text) ends.1;
+              };
+              same = same;
+              named = only.0.named;
+            },
+          )
+
+      only_refused : (e : FileFault) → OnlyRefused form name m (record_place text) follows e → FormedRefused form name text kept e
+      only_refused Mem refused = tt
+      only_refused (OtherType held offered) refused = absurd refused
+      only_refused (Bad at) refused = inr (record { block_type = block_type; head = head; body = subst (λ (l : List (List ℕ)). IsBadAfterHead form name text l at) (sym messages) (by_cause refused) })
+        where
+          by_cause : OnlyRefused form name m (record_place text) follows (Bad at) → IsBadAfterHead form name text (m ∷ more) at
+          by_cause (inl bad) = inl bad
+          by_cause (inr (inl misnamed)) = inr (inl misnamed)
+          by_cause (inr (inr f)) = inr (inr (record { block = f.block; record_is = f.record_is; named = f.named; follows = f.follows; place = f.at_is }))
+
+      only_answers : (result : Result (List ℕ) FileFault) → OnlyAnswers form name m (record_place text) follows block_type result → FormedAnswers form name text kept result
+      only_answers (Ok answer) answers = only_ok answer answers
+      only_answers (Err e) answers = only_refused e answers
+
+    -- what is answered of the first message is what is answered of the file
+    pub formed_from : (first : List ℕ) (place : ℕ) (goes_on : Bool) (result : Result (List ℕ) FileFault) → slice_get file.messages.items 0 ≡ Some first → place ≡ 11 + length block_type
+        → goes_on ≡ (nat_lt 1 (length file.messages.items) || is_some file.fault) → OnlyAnswers form name first place goes_on block_type result → FormedAnswers form name text kept result
+    formed_from first place goes_on result got place_is is answers = by_list (contents text).messages refl
+      where
+        by_list : (ms : List (List ℕ)) → (contents text).messages ≡ ms → FormedAnswers form name text kept result
+        by_list [] e = absurd (let none : slice_get file.messages.items 0 ≡ None = ap (λ (l : List (List ℕ)). slice_get l 0) (has.messages ∙ e) in let clash = sym got ∙ none in cc clash)
+        by_list (m ∷ more) e =
+            let first_is : Some m ≡ Some first = sym (ap (λ (l : List (List ℕ)). slice_get l 0) (has.messages ∙ e)) ∙ got in
+            let there : first ≡ m = sym (some_is m first first_is) in
+            let at_record : place ≡ record_place text = place_is ∙ ap (λ (t : Option (List ℕ)). 11 + length (unwrap_or t [])) (sym found ∙ has.block_type) in
+            let goes : goes_on ≡ (nat_lt 0 (length more) || is_some (container_fault text)) =
+            is ∙ ap (λ (l : List (List ℕ)). nat_lt 1 (length l) || is_some file.fault) (has.messages ∙ e) ∙ ap (λ t. t || is_some file.fault) (more_than_one m more) ∙ ap (λ o. nat_lt 0 (length more) || is_some o) has.fault in
+            only_answers m more e result (rw (← there, ← at_record, ← goes) answers)

@@ -1,0 +1,16 @@
+-- What is asked of a file decides whether it is refused, as a law.
+use Rattle.std.specs.Prelude.{ℕ, ◌≡◌, List, Option}
+use Rattle.block_record.specs.declared.blocks.Block.{Block}
+use Rattle.block_record.specs.declared.blocks.BlockRef.{BlockRef}
+use Rattle.shelf_check.specs.declared.faults.FileFault.{FileFault}
+use Rattle.shelf_check.specs.declared.faults.FileFault.TheVariants.{Mem}
+use Rattle.shelf_check.specs.declared.forms.Form.{Form}
+use Rattle.shelf_check.specs.Bundles.{IsBundle, BundleRefused}
+use Rattle.shelf_check.specs.Singles.{IsSingleOf, FormedRefused}
+
+-- a good file is refused for want of memory alone
+pub record GoodFilesAreTaken : Type 0 where
+  pub bundle : (base : ℕ) (text : List ℕ) (kept : Option (List ℕ)) (before : Option BlockRef) (block_type : List ℕ) (blocks : List Block) (fault : FileFault)
+      → IsBundle base text kept before block_type blocks → BundleRefused base text kept before fault → fault ≡ Mem
+  pub single : (form : Form) (name text : List ℕ) (kept : Option (List ℕ)) (block_type : List ℕ) (block : Block) (fault : FileFault)
+      → IsSingleOf form name text kept block_type block → FormedRefused form name text kept fault → fault ≡ Mem

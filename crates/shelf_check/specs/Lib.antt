@@ -1,0 +1,10 @@
+pub mod Containers
+pub mod Bundles
+pub mod Forms
+pub mod Singles
+pub mod Steps
+pub mod Refusals
+pub mod Folders
+pub mod Merged
+pub mod Shelf
+pub mod Laws

@@ -1,0 +1,171 @@
+-- The folder of merged blocks.
+use Rattle.std.specs.Prelude.{ℕ, ◌≡◌, ◌+◌, ◌⊎◌, List, [], ◌∷◌, ◌++◌, length, map, reverse, codes, Option, None, Some, ⊤, Result, Ok, Err, IsPermutation, IsSorted}
+use Rattle.std.specs.Global.{Vec}
+use Rattle.std.specs.declared.cmp.Ordering.{Ordering}
+use Rattle.std.specs.Ordering.{nat_cmp, ordering_then}
+use Rattle.std.specs.Cmp.Lexicographic.{slice_cmp}
+use Rattle.block_record.specs.declared.blocks.Block.{Block}
+use Rattle.block_record.specs.declared.blocks.BlockRef.{BlockRef}
+use Rattle.dbin_file.specs.Contents.{told}
+use Rattle.one_block.specs.Files.{merged_base_of}
+use Rattle.outer_world.specs.Files.{Files}
+use Rattle.outer_world.specs.Shelves.{AreNamesOf}
+use Rattle.shelf_check.specs.declared.faults.FileFault.{FileFault}
+use Rattle.shelf_check.specs.declared.faults.FileFault.TheVariants.{Bad}
+use Rattle.shelf_check.specs.declared.faults.LoadFault.{LoadFault}
+use Rattle.shelf_check.specs.declared.merged.MergedRead.{MergedRead}
+use Rattle.shelf_check.specs.Bundles.{IsBundle, BundleRefused, tip_after}
+use Rattle.shelf_check.specs.Folders.{HasText}
+use Rattle.shelf_check.specs.Refusals.{Refused}
+
+-- the base and the whole name of a file
+abbrev pub Entry : Type 0
+Entry = ℕ × List ℕ
+
+-- by base, as a number, and then by name
+abbrev pub entry_order : Entry → Entry → Ordering
+entry_order a b = ordering_then (nat_cmp a.0 b.0) (slice_cmp nat_cmp a.1 b.1)
+
+-- each of these names is that of a file of merged blocks, and these are the bases and names
+pub record AreBased (names : List (List ℕ)) (entries : List Entry) : Type 0 where
+  pub names_are : names ≡ map (λ e. e.1) entries
+  pub bases : map merged_base_of names ≡ map (λ e. Some e.0) entries
+
+-- the same in the order of bases
+pub record AreOrdered (names : List (List ℕ)) (entries : List Entry) : Type 0 where
+  pub found : List Entry
+  pub based : AreBased names found
+  pub all : IsPermutation found entries
+  pub in_order : IsSorted entry_order entries
+
+-- a file of merged blocks: its base, whole name and text, and the type and the blocks that it holds, the newest first
+pub record Bundle : Type 0 where
+  pub base : ℕ
+  pub name : List ℕ
+  pub text : List ℕ
+  pub block_type : List ℕ
+  pub blocks : List Block
+
+-- a file on the shelf obeys the rule, after files of this type and after this block
+pub record IsBundleOn (files : Option Files) (kept : Option (List ℕ)) (before : Option BlockRef) (x : Bundle) : Type 0 where
+  pub there : HasText files x.name x.text
+  pub bundle : IsBundle x.base x.text kept before x.block_type x.blocks
+
+-- the type of these files, the last one first
+abbrev pub kept_of : List Bundle → Option (List ℕ)
+kept_of [] = None
+kept_of (x ∷ older) = Some x.block_type
+
+-- the last block of these files
+abbrev pub tip_of : List Bundle → Option BlockRef
+tip_of [] = None
+tip_of (x ∷ older) = tip_after (tip_of older) x.blocks
+
+-- how many blocks they hold
+abbrev pub block_count : List Bundle → ℕ
+block_count [] = 0
+block_count (x ∷ older) = block_count older + length x.blocks
+
+-- files, the last one first, obey the rule, each after those before it
+abbrev pub AreBundles : Option Files → List Bundle → Type 0
+AreBundles files [] = ⊤
+AreBundles files (x ∷ older) = IsBundleOn files (kept_of older) (tip_of older) x × AreBundles files older
+
+-- bases and names of files, in the order in which they are read, where the last one stands first
+abbrev pub entries_of : List Bundle → List Entry
+entries_of bundles = map (λ x. (x.base, x.name)) (reverse bundles)
+
+-- these are all files of merged blocks, the last one first, and they obey the rule
+pub record IsMerged (files : Option Files) (bundles : List Bundle) : Type 0 where
+  pub names : List (List ℕ)
+  pub listed : AreNamesOf files (codes "merged") names
+  pub ordered : AreOrdered names (entries_of bundles)
+  pub good : AreBundles files bundles
+
+-- the first of the names that is not that of a file of merged blocks
+pub record IsOtherName (names : List (List ℕ)) (name : List ℕ) (fault : FileFault) : Type 0 where
+  pub entries : List Entry
+  pub more : List (List ℕ)
+  pub names_are : names ≡ map (λ e. e.1) entries ++ name ∷ more
+  pub bases : map merged_base_of (map (λ e. e.1) entries) ≡ map (λ e. Some e.0) entries
+  pub other : merged_base_of name ≡ None
+  pub place : fault ≡ Bad 0
+
+-- the file of this base and name is refused for this, after files of this type and after this block
+pub record IsBadBundle (files : Option Files) (kept : Option (List ℕ)) (before : Option BlockRef) (base : ℕ) (name : List ℕ) (fault : FileFault) : Type 0 where
+  pub text : List ℕ
+  pub there : HasText files name text
+  pub refused : BundleRefused base text kept before fault
+
+-- the first of these files obey the rule, and the next one does not
+pub record IsFirstOf (files : Option Files) (entries : List Entry) (name : List ℕ) (fault : FileFault) : Type 0 where
+  pub bundles : List Bundle
+  pub base : ℕ
+  pub more : List Entry
+  pub entries_are : entries ≡ entries_of bundles ++ (base, name) ∷ more
+  pub good : AreBundles files bundles
+  pub bad : IsBadBundle files (kept_of bundles) (tip_of bundles) base name fault
+
+-- the first file by bases that is refused
+pub record IsFirstBased (files : Option Files) (names : List (List ℕ)) (name : List ℕ) (fault : FileFault) : Type 0 where
+  pub entries : List Entry
+  pub ordered : AreOrdered names entries
+  pub first : IsFirstOf files entries name fault
+
+-- the first fault of the folder: all names are read before a file is
+pub record IsFirstIn (files : Option Files) (name : List ℕ) (fault : FileFault) : Type 0 where
+  pub names : List (List ℕ)
+  pub listed : AreNamesOf files (codes "merged") names
+  pub first : IsOtherName names name fault ⊎ IsFirstBased files names name fault
+
+-- what is answered to names, with no call of a shelf, so that no count rises
+abbrev pub EntriesAnswer : List (List ℕ) → Result (Vec Entry) LoadFault → Type 0
+EntriesAnswer names (Ok entries) = AreBased names entries.items
+EntriesAnswer names (Err fault) = Refused (λ name f. IsOtherName names name f) 1 0 fault
+
+-- one more file was read
+pub record IsNextRead (files : Option Files) (base : ℕ) (name : List ℕ) (old new : MergedRead) : Type 0 where
+  pub x : Bundle
+  pub base_is : x.base ≡ base
+  pub name_is : x.name ≡ name
+  pub good : IsBundleOn files old.kept old.tip x
+  pub kept : new.kept ≡ Some x.block_type
+  pub tip : new.tip ≡ tip_after old.tip x.blocks
+  pub blocks : new.blocks ≡ told (old.blocks + length x.blocks)
+
+-- the refusal of the file of this base and name
+pub record IsRefusedBundle (files : Option Files) (base : ℕ) (name : List ℕ) (old : MergedRead) (told_name : List ℕ) (fault : FileFault) : Type 0 where
+  pub told_is : told_name ≡ name
+  pub bad : IsBadBundle files old.kept old.tip base name fault
+
+-- what is answered to one more file
+abbrev pub NextAnswers : Option Files → ℕ → List ℕ → MergedRead → ℕ → ℕ → Result MergedRead LoadFault → Type 0
+NextAnswers files base name old before now (Ok new) = IsNextRead files base name old new
+NextAnswers files base name old before now (Err fault) = Refused (λ told_name f. IsRefusedBundle files base name old told_name f) before now fault
+
+-- what was read of these files
+pub record AreRead (files : Option Files) (entries : List Entry) (read : MergedRead) : Type 0 where
+  pub bundles : List Bundle
+  pub entries_are : entries ≡ entries_of bundles
+  pub good : AreBundles files bundles
+  pub kept : read.kept ≡ kept_of bundles
+  pub tip : read.tip ≡ tip_of bundles
+  pub blocks : read.blocks ≡ told (block_count bundles)
+
+-- what is answered to these files
+abbrev pub ReadAnswers : Option Files → List Entry → ℕ → ℕ → Result MergedRead LoadFault → Type 0
+ReadAnswers files entries before now (Ok read) = AreRead files entries read
+ReadAnswers files entries before now (Err fault) = Refused (λ name f. IsFirstOf files entries name f) before now fault
+
+-- what was read of the folder
+pub record IsFolderRead (files : Option Files) (bundles_read : ℕ) (read : MergedRead) : Type 0 where
+  pub bundles : List Bundle
+  pub whole : IsMerged files bundles
+  pub kept : read.kept ≡ kept_of bundles
+  pub blocks : read.blocks ≡ told (block_count bundles)
+  pub count : bundles_read ≡ length bundles
+
+-- what is answered to the folder
+abbrev pub FolderAnswers : Option Files → ℕ → ℕ → Result (ℕ × MergedRead) LoadFault → Type 0
+FolderAnswers files before now (Ok read) = IsFolderRead files read.0 read.1
+FolderAnswers files before now (Err fault) = Refused (λ name f. IsFirstIn files name f) before now fault

@@ -1,0 +1,50 @@
+-- The whole shelf: what is answered to it.
+use Rattle.std.specs.Prelude.{ℕ, ◌≡◌, ◌⊎◌, List, length, Option, Result, Ok, Err}
+use Rattle.dbin_file.specs.Contents.{told}
+use Rattle.outer_world.specs.Files.{Files}
+use Rattle.shelf_check.specs.declared.check.Report.{Report}
+use Rattle.shelf_check.specs.declared.faults.FileFault.{FileFault}
+use Rattle.shelf_check.specs.declared.faults.LoadFault.{LoadFault}
+use Rattle.shelf_check.specs.declared.forms.Folder.TheVariants.{One, Forked}
+use Rattle.shelf_check.specs.Folders.{Single, IsFolder, kept_after}
+use Rattle.shelf_check.specs.Folders.{IsFirstIn as IsFirstInFolder}
+use Rattle.shelf_check.specs.Merged.{Bundle, IsMerged, kept_of, block_count}
+use Rattle.shelf_check.specs.Merged.{IsFirstIn as IsFirstInMerged}
+use Rattle.shelf_check.specs.Refusals.{Refused}
+
+-- how many files and blocks there are
+abbrev pub report_of : List Bundle → List Single → List Single → Report
+report_of bundles one forked = record { bundles = length bundles; blocks = told (block_count bundles); one = length one; forked = length forked }
+
+-- all files of the three folders have their form, and one type; those of merged blocks obey the rule; and this is how many there are
+pub record IsGood (files : Option Files) (report : Report) : Type 0 where
+  pub bundles : List Bundle
+  pub one : List Single
+  pub forked : List Single
+  pub merged_folder : IsMerged files bundles
+  pub one_folder : IsFolder One files (kept_of bundles) one
+  pub forked_folder : IsFolder Forked files (kept_after (kept_of bundles) one) forked
+  pub counts : report ≡ report_of bundles one forked
+
+-- the files of merged blocks are good, and the first fault is in `one/`
+pub record IsFirstInOne (files : Option Files) (name : List ℕ) (fault : FileFault) : Type 0 where
+  pub bundles : List Bundle
+  pub merged_folder : IsMerged files bundles
+  pub first : IsFirstInFolder One files (kept_of bundles) name fault
+
+-- the files of merged blocks and those in `one/` are good, and the first fault is in `forked/`
+pub record IsFirstInForked (files : Option Files) (name : List ℕ) (fault : FileFault) : Type 0 where
+  pub bundles : List Bundle
+  pub one : List Single
+  pub merged_folder : IsMerged files bundles
+  pub one_folder : IsFolder One files (kept_of bundles) one
+  pub first : IsFirstInFolder Forked files (kept_after (kept_of bundles) one) name fault
+
+-- the first fault of the shelf
+abbrev pub IsFirstFault : Option Files → List ℕ → FileFault → Type 0
+IsFirstFault files name fault = IsFirstInMerged files name fault ⊎ (IsFirstInOne files name fault ⊎ IsFirstInForked files name fault)
+
+-- what is answered to a shelf, whose count of faults was one and is now another
+abbrev pub CheckAnswers : Option Files → ℕ → ℕ → Result Report LoadFault → Type 0
+CheckAnswers files before now (Ok report) = IsGood files report
+CheckAnswers files before now (Err fault) = Refused (λ name f. IsFirstFault files name f) before now fault

@@ -1,0 +1,45 @@
+//! The whole shelf.
+
+ghost use Rattle.std.specs.Prelude.{◌≡◌, ◌≤◌};
+ghost use Rattle.shelf_check.specs.Shelf.{CheckAnswers};
+
+use crate::faults::LoadFault;
+use crate::folders::check_folder;
+use crate::forms::Folder;
+use crate::merged::check_merged;
+use outer_world::Shelf;
+use std::alloc::Global;
+
+/// How many files and blocks a shelf has.
+#[derive(Clone, Copy, PartialEq, Eq, Debug)]
+pub struct Report {
+    /// The files of `merged/`.
+    pub bundles: u64,
+    /// The blocks in them, or the greatest number of the type where there are more.
+    pub blocks: u64,
+    /// The files of `one/`.
+    pub one: u64,
+    /// The files of `forked/`.
+    pub forked: u64,
+}
+
+/// Reads each file of `merged/`, by its base as a number, then of `one/`, then of `forked/`, and
+/// compares it with the form of its folder. The first fault in this order is answered. It writes
+/// nothing.
+pub fn check_shelf<S: Shelf>(alloc: Global, shelf: &mut S) -> Result<Report, LoadFault>
+    ensures answer { CheckAnswers (S.files shelf.old)
+        (S.shelf_faults shelf.old) (S.shelf_faults shelf.new) result }
+    ensures files { S.files shelf.new ≡ S.files shelf.old }
+    ensures staged { S.staged shelf.new ≡ S.staged shelf.old }
+    ensures later { S.shelf_faults shelf.old ≤ S.shelf_faults shelf.new }
+{
+    let (bundles, merged) = check_merged(alloc, shelf)?;
+    let one = check_folder(alloc, shelf, Folder::One, merged.kept)?;
+    let forked = check_folder(alloc, shelf, Folder::Forked, one.kept)?;
+    Ok(Report {
+        bundles,
+        blocks: merged.blocks,
+        one: one.files,
+        forked: forked.files,
+    })
+}

@@ -1,0 +1,22 @@
+//! The whole shelf, read and compared with the rules of its folders.
+#![tactic(auto)]
+
+mod bundles;
+mod check;
+mod containers;
+mod faults;
+mod folders;
+mod forms;
+mod laws;
+mod merged;
+mod singles;
+
+pub use bundles::{BundleRead, check_bundle};
+pub use check::{Report, check_shelf};
+pub use faults::{FileFault, LoadFault};
+pub use forms::Folder;
+pub use laws::good_files_are_taken;
+pub use singles::check_single;
+
+#[cfg(test)]
+mod tests;

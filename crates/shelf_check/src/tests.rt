@@ -1,0 +1,255 @@
+//! Shelves in memory, with counts and places worked out by hand.
+
+use crate::{LoadFault, Report, check_shelf};
+use block_record::TypeName;
+use memory_world::{FailingShelf, MemoryShelf};
+use one_block::StoreFault;
+use outer_world::{FileName, write_file};
+use std::alloc::{AllocError, Global};
+use std::test::Fail;
+
+/// A block: its number and id, and those of its parent. Its lib number and time are 0, and its
+/// payload is 01.
+type Given = (u64, &'static str, u64, &'static str);
+
+/// Adds the record of a block after its length. With ids of two bytes it has 44 bytes.
+fn add_record(out: &mut Vec<u8>, block: Given) -> Result<(), AllocError> {
+    let (num, id, parent_num, parent_id) = block;
+    out.extend_from_slice(&[0, 0, 0, 44, 1])?;
+    out.extend_from_slice(&num.to_be_bytes())?;
+    out.extend_from_slice(&parent_num.to_be_bytes())?;
+    out.extend_from_slice(&[0; 16])?;
+    out.push(2)?;
+    out.extend_from_slice(id.as_bytes())?;
+    out.push(2)?;
+    out.extend_from_slice(parent_id.as_bytes())?;
+    out.extend_from_slice(&[0, 0, 0, 1, 1])?;
+    Ok(())
+}
+
+/// A container of a type of ten bytes with these blocks. Its header has 17 bytes.
+fn container(
+    alloc: Global,
+    block_type: &str,
+    blocks: &[Given],
+    zeros: usize,
+) -> Result<Vec<u8>, AllocError> {
+    let mut out = Vec::from_slice(alloc, b"dbin\x01\x00\x0a")?;
+    out.extend_from_slice(block_type.as_bytes())?;
+    for block in blocks {
+        add_record(&mut out, *block)?;
+    }
+    for _ in 0..zeros {
+        out.push(0)?;
+    }
+    Ok(out)
+}
+
+/// Puts a file of these blocks on a shelf, with so many bytes 0 after them.
+fn put(
+    shelf: &mut MemoryShelf,
+    alloc: Global,
+    name: &str,
+    blocks: &[Given],
+    zeros: usize,
+) -> Result<(), Fail> {
+    let name = FileName::new(alloc, name.as_bytes())?;
+    let text = container(alloc, "test.Block", blocks, zeros)?;
+    write_file(shelf, &name, text.as_slice())?;
+    Ok(())
+}
+
+/// The report of a shelf, or none where it is refused.
+fn report(alloc: Global, shelf: &mut MemoryShelf) -> Option<Report> {
+    check_shelf(alloc, shelf).ok()
+}
+
+/// A shelf with two bundles, a one-block file and a forked block.
+fn full_shelf(alloc: Global) -> Result<MemoryShelf, Fail> {
+    let mut shelf = MemoryShelf::new(alloc);
+    let first = [(1, "a1", 0, "a0"), (99, "b2", 1, "a1")];
+    put(&mut shelf, alloc, "merged/0000000000.dbin", &first, 0)?;
+    let second = [(150, "c3", 99, "b2")];
+    put(&mut shelf, alloc, "merged/0000000100.dbin", &second, 0)?;
+    let one = "one/0000000151-19700101T000000.0-d4-c3-0-r1.dbin";
+    put(&mut shelf, alloc, one, &[(151, "d4", 150, "c3")], 0)?;
+    let forked = [(2, "f2", 1, "a1")];
+    put(&mut shelf, alloc, "forked/0000000002-f2.dbin", &forked, 0)?;
+    Ok(shelf)
+}
+
+#[test]
+fn an_empty_shelf_has_nothing(rt: HostRuntime) {
+    let mut shelf = MemoryShelf::new(rt.alloc());
+    let none = Report {
+        bundles: 0,
+        blocks: 0,
+        one: 0,
+        forked: 0,
+    };
+    assert!(rt; report(rt.alloc(), &mut shelf) == Some(none));
+}
+
+#[test]
+fn files_and_blocks_are_counted(rt: HostRuntime) -> Result<(), Fail> {
+    let mut shelf = full_shelf(rt.alloc())?;
+    let counts = Report {
+        bundles: 2,
+        blocks: 3,
+        one: 1,
+        forked: 1,
+    };
+    assert!(rt; report(rt.alloc(), &mut shelf) == Some(counts));
+    Ok(())
+}
+
+/// A shelf whose bases of ten and eleven digits stand in another order by bytes.
+fn long_shelf(alloc: Global) -> Result<MemoryShelf, Fail> {
+    let mut shelf = MemoryShelf::new(alloc);
+    let low = [(2_000_000_001, "a1", 0, "a0")];
+    put(&mut shelf, alloc, "merged/2000000000.dbin", &low, 0)?;
+    let high = [(10_000_000_005, "b2", 2_000_000_001, "a1")];
+    put(&mut shelf, alloc, "merged/10000000000.dbin", &high, 0)?;
+    Ok(shelf)
+}
+
+#[test]
+fn bases_are_read_as_numbers(rt: HostRuntime) -> Result<(), Fail> {
+    let mut shelf = long_shelf(rt.alloc())?;
+    let counts = Report {
+        bundles: 2,
+        blocks: 2,
+        one: 0,
+        forked: 0,
+    };
+    assert!(rt; report(rt.alloc(), &mut shelf) == Some(counts));
+    Ok(())
+}
+
+/// Where the file of this name is bad, or none where it is not.
+fn place(alloc: Global, shelf: &mut MemoryShelf, name: &str) -> Option<u64> {
+    match check_shelf(alloc, shelf) {
+        Err(LoadFault::Store(StoreFault::ShelfBad { name: bad, at })) => {
+            if bad.as_bytes() == name.as_bytes() {
+                Some(at)
+            } else {
+                None
+            }
+        }
+        _ => None,
+    }
+}
+
+/// The name of a file, two blocks, how many of them it has, how many bytes 0 follow them, and where
+/// it is bad.
+type Row = (&'static str, [Given; 2], usize, usize, u64);
+
+const A1: Given = (1, "a1", 0, "a0");
+
+const B2: Given = (2, "b2", 1, "a1");
+
+const ONE: &str = "one/0000000001-19700101T000000.0-a1-a0-0-r1.dbin";
+
+const BAD: [Row; 20] = [
+    ("merged/0000000001.dbin", [A1, B2], 2, 0, 0),
+    ("merged/000000000.dbin", [A1, B2], 2, 0, 0),
+    ("merged/0000000000.dbin", [A1, B2], 0, 0, 17),
+    ("merged/0000000000.dbin", [A1, B2], 2, 3, 113),
+    (
+        "merged/0000000000.dbin",
+        [A1, (100, "b2", 1, "a1")],
+        2,
+        0,
+        69,
+    ),
+    ("merged/0000000100.dbin", [A1, B2], 1, 0, 21),
+    ("merged/0000000000.dbin", [A1, (2, "b2", 1, "zz")], 2, 0, 69),
+    ("merged/0000000000.dbin", [A1, (3, "b2", 2, "a1")], 2, 0, 69),
+    (
+        "merged/0000000000.dbin",
+        [(0, "a1", 0, "a0"), (0, "b2", 0, "a1")],
+        2,
+        0,
+        69,
+    ),
+    (
+        "merged/0000000000.dbin",
+        [A1, (2, "b-", 1, "a1")],
+        2,
+        0,
+        102,
+    ),
+    (ONE, [A1, B2], 0, 0, 17),
+    (ONE, [A1, B2], 2, 0, 65),
+    (ONE, [A1, B2], 1, 1, 65),
+    (ONE, [B2, A1], 2, 0, 0),
+    (ONE, [(1, "a1", 1, "a0"), B2], 2, 0, 30),
+    ("one/a.dbin", [A1, B2], 0, 0, 0),
+    ("forked/0000000001-a1.dbin", [A1, B2], 2, 0, 65),
+    ("forked/0000000001-a2.dbin", [A1, B2], 1, 0, 0),
+    ("forked/1-a1.dbin", [A1, B2], 1, 0, 0),
+    ("forked/0000000001-a1.dbin", [A1, B2], 0, 3, 17),
+];
+
+fn bad_place(alloc: Global, row: Row) -> Result<Option<u64>, Fail> {
+    let (name, blocks, count, zeros, _) = row;
+    let mut shelf = MemoryShelf::new(alloc);
+    put(&mut shelf, alloc, name, &blocks[..count.min(2)], zeros)?;
+    Ok(place(alloc, &mut shelf, name))
+}
+
+#[test]
+fn a_bad_file_is_named_at_its_first_fault(rt: HostRuntime) -> Result<(), Fail> {
+    for row in BAD {
+        let found = bad_place(rt.alloc(), row)?;
+        assert!(rt; found == Some(row.4), "{} with {} blocks", row.0, row.2);
+    }
+    Ok(())
+}
+
+#[test]
+fn blocks_are_children_over_all_files(rt: HostRuntime) -> Result<(), Fail> {
+    let alloc = rt.alloc();
+    let mut shelf = full_shelf(alloc)?;
+    let apart = [(150, "c3", 99, "b3")];
+    put(&mut shelf, alloc, "merged/0000000100.dbin", &apart, 0)?;
+    assert!(rt; place(alloc, &mut shelf, "merged/0000000100.dbin") == Some(21));
+    Ok(())
+}
+
+/// The answer to a full shelf with a further file of another type.
+fn clash(alloc: Global) -> Result<Result<Report, LoadFault>, Fail> {
+    let mut shelf = full_shelf(alloc)?;
+    let name = FileName::new(alloc, b"forked/0000000003-g3.dbin")?;
+    let text = container(alloc, "best.Block", &[(3, "g3", 1, "a1")], 0)?;
+    write_file(&mut shelf, &name, text.as_slice())?;
+    Ok(check_shelf(alloc, &mut shelf))
+}
+
+#[test]
+fn two_types_clash(rt: HostRuntime) -> Result<(), Fail> {
+    let alloc = rt.alloc();
+    let held = TypeName::new(alloc, b"test.Block")?.ok_or("no type")?;
+    let offered = TypeName::new(alloc, b"best.Block")?.ok_or("no type")?;
+    assert!(rt; clash(alloc)? == Err(LoadFault::KindClash { held, offered }));
+    Ok(())
+}
+
+/// The answer to an empty shelf whose call of this number fails, counted from 0.
+fn failing(alloc: Global, call: u64) -> Result<Result<Report, LoadFault>, Fail> {
+    let fails = Vec::from_slice(alloc, &[call])?;
+    let mut shelf = FailingShelf::new(MemoryShelf::new(alloc), fails);
+    Ok(check_shelf(alloc, &mut shelf))
+}
+
+#[test]
+fn a_failed_call_is_told(rt: HostRuntime) -> Result<(), Fail> {
+    for call in 0..3 {
+        let answer = failing(rt.alloc(), call)?;
+        assert!(rt;
+            answer == Err(LoadFault::Store(StoreFault::ShelfFault)),
+            "call {call}"
+        );
+    }
+    Ok(())
+}
