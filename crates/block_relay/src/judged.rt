@@ -5,13 +5,14 @@ ghost use Rattle.std.specs.Option.{option_copied};
 ghost use Rattle.block_record.specs.Slips.{slip as slip_of_block, same_slip};
 ghost use Rattle.chain_model.specs.Ancestry.{find_id, has_id};
 ghost use Rattle.chain_model.specs.Finality.{final_tip, root_num};
-ghost use Rattle.relay_model.specs.Offers.{clash, judge_clash, judge_held, judge_linked as judge_linked_in, judge_parent, tip_num};
+ghost use Rattle.relay_model.specs.Offers.{clash, judge_clash, judge_held, judge_linked as judge_linked_in, judge_parent};
 ghost use Rattle.block_tree.specs.Places.{place_of, slip_at};
 ghost use Rattle.relay_model.specs.Worlds.{World};
 ghost use Rattle.block_relay.specs.Judged.{HasParts, clash_of, verdict_of_judged};
 
 use block_record::{Block, Id, Slip};
 use fork_db::{ForkDb, Verdict};
+use relay_look::tip_number;
 use relay_model::ConflictKind;
 use wait_room::WaitRoom;
 
@@ -49,16 +50,6 @@ pub fn is_slip_of(slip: &Slip, block: &Block) -> bool
         && slip.time == block.time
         && slip.length as usize == block.payload.as_bytes().len()
         && slip.digest == block.digest
-}
-
-/// The number of the final tip, and 0 where there is none.
-pub fn tip_number(db: &ForkDb) -> u64
-    ensures { result ≡ tip_num db.now.history }
-{
-    if db.len() == 0 {
-        return 0;
-    }
-    db.slip(tip_place(db)).num
 }
 
 /// How a block contradicts the history, which has its parent at a place and not itself, and with

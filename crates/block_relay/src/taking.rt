@@ -10,9 +10,10 @@ ghost use Rattle.relay_model.specs.Worlds.{descendants, next_waiting};
 ghost use Rattle.block_relay.specs.Taking.{AreWithin, CanStart, CanTake, clashes_seen, dropped_after, history_after, intake_from, intake_of, IsRoomFault};
 
 use crate::answers::OfferFault;
-use crate::judged::{clash_with, tip_number};
+use crate::judged::clash_with;
 use block_record::{Block, Id, Slip};
 use fork_db::{ForkDb, ForkFault};
+use relay_look::tip_number;
 use relay_model::ConflictKind;
 use std::alloc::AllocError;
 use std::sync::Arc;

@@ -10,3 +10,4 @@ mod tests;
 
 pub use answers::{Look, LookFault, Position};
 pub use looks::look;
+pub use paths::tip_number;
