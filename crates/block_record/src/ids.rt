@@ -1,12 +1,16 @@
 //! Ids of blocks.
 
-ghost use Rattle.std.specs.Prelude.{◌≡◌, IfOk, MatchOption};
+ghost use Rattle.std.specs.Prelude.{◌≡◌, ◌≤◌, [], IfOk, MatchOption, vec_capacity};
 ghost use Rattle.std.specs.List.{list_all};
+ghost use Rattle.block_record.specs.declared.ids.TheConstants.{ID_BYTES_MAX};
 ghost use Rattle.block_record.specs.Texts.{IsId, is_id_text, is_id_byte as is_byte_of_id};
 
 use std::alloc::{AllocError, Global};
 use std::hash::{Hash, Hasher};
 use std::marker::Model;
+
+/// The most bytes that an id has.
+const ID_BYTES_MAX: usize = 128;
 
 /// The id of a block: 1 to 128 ASCII letters, digits or `_`. Contracts see it as its bytes.
 #[derive(Clone, Debug, Drop)]
@@ -79,11 +83,36 @@ impl Id {
     }
 }
 
+/// Memory for one id, whatever its text.
+#[derive(Debug, Drop)]
+pub struct IdBuffer {
+    bytes: Vec<u8>,
+    ghost empty: { bytes.items ≡ [] },
+    ghost wide: { ID_BYTES_MAX ≤ vec_capacity bytes },
+}
+
+impl IdBuffer {
+    /// Takes the memory.
+    pub fn new(alloc: Global) -> Result<IdBuffer, AllocError> {
+        let bytes = Vec::with_capacity(alloc, ID_BYTES_MAX)?;
+        Ok(IdBuffer { bytes })
+    }
+
+    /// A copy of the id. It takes no memory.
+    pub fn copy(self, id: &Id) -> Id
+        ensures { result ≡ id.now }
+    {
+        let mut bytes = self.bytes;
+        bytes.extend_from_slice(id.as_bytes()).unwrap();
+        Id { bytes }
+    }
+}
+
 /// Whether the text is an id.
 pub fn is_id(text: &[u8]) -> bool
     ensures { result ≡ is_id_text text.now }
 {
-    !text.is_empty() && text.len() <= 128 && has_id_bytes(text)
+    !text.is_empty() && text.len() <= ID_BYTES_MAX && has_id_bytes(text)
 }
 
 /// Whether each byte may stand in an id. It reads all of them, which the compiler makes wide.

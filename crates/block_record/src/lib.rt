@@ -2,6 +2,7 @@
 #![tactic(auto)]
 
 mod blocks;
+mod buffers;
 mod bytes;
 mod digests;
 mod faults;
@@ -12,6 +13,7 @@ mod records;
 mod types;
 
 pub use blocks::{Block, BlockRef, Kind, PAYLOAD_BYTES_MAX, Slip, Version};
+pub use buffers::SlipBuffer;
 pub use bytes::Bytes;
 pub use digests::{into_slip, slip_of};
 pub use faults::RecordFault;
