@@ -1,3 +1,3 @@
-pub mod Offers
+pub mod Limits
 pub mod StepText
 pub mod Taken

@@ -1,9 +1,8 @@
-//! What `steps` tells of blocks: the rules as definitions, and a slow body for them by scans of a
-//! plain list.
+//! What `steps` tells of blocks, as definitions, and the lines of steps.
 #![tactic(auto)]
 
-mod offers;
-mod telling;
+mod lines;
+mod refusals;
 
-pub use offers::{Conflict, ConflictKind, HISTORY_BLOCKS_MAX, Refusal, Verdict, contradiction};
-pub use telling::{push_line, tell_plainly, word};
+pub use lines::{push_line, word};
+pub use refusals::Refusal;
