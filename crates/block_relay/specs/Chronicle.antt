@@ -10,14 +10,16 @@ use Rattle.relay_model.specs.Soundness.{IsSound}
 use Rattle.fork_db.specs.Forks.{Forks}
 use Rattle.wait_room.specs.Rooms.{Room}
 use Rattle.block_relay.specs.declared.limits.Limits.{Limits as PlantLimits}
+use Rattle.block_relay.specs.declared.payloads.Payloads.{Payloads}
 use Rattle.block_relay.specs.declared.marks.Mark.{Mark}
 use Rattle.block_relay.specs.declared.marks.Mark.TheVariants as mark
 use Rattle.block_relay.specs.Judged.{HasParts}
 
--- the entries of the chronicle, and all conflicts that were noted, both with what came last first
+-- the entries of the chronicle, and all conflicts that were noted, both with what came last first, and whether payloads are kept
 pub record Told : Type 0 where
   pub entries : List Entry
   pub conflicts : List Clash
+  pub payloads : Payloads
 
 -- the world that a relay stands for
 abbrev pub world_told : Told → World

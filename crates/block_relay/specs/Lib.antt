@@ -1,3 +1,4 @@
+pub mod Answers
 pub mod Judged
 pub mod Chronicle
 pub mod Taking

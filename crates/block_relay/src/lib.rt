@@ -5,6 +5,7 @@ mod answers;
 mod judged;
 mod limits;
 mod marks;
+mod payloads;
 mod relay;
 mod taking;
 #[cfg(test)]
@@ -12,6 +13,7 @@ mod tests;
 
 pub use answers::{KindFault, OfferFault, Offered};
 pub use limits::Limits;
+pub use payloads::Payloads;
 pub use relay::Relay;
 pub use relay_look::{Look, LookFault, Position};
 pub use relay_model::{Conflict, ConflictKind};

@@ -10,16 +10,18 @@ ghost use Rattle.chain_model.specs.Places.{steps_to};
 ghost use Rattle.fork_db.specs.Batches.{IsGiven, WasGiven, item_seen};
 ghost use Rattle.relay_look.specs.Answers.{FitsAt, HasBatchOf, IsLook, position_of};
 ghost use Rattle.relay_model.specs.Looks.{looked};
-ghost use Rattle.relay_model.specs.Chronicles.{Kind as KindEntry, Opened, Waited};
-ghost use Rattle.relay_model.specs.Offers.{Waits, conflict, judge as judge_in};
-ghost use Rattle.relay_model.specs.Soundness.{IsSound};
+ghost use Rattle.relay_model.specs.Chronicles.{Kind as KindEntry, Opened, Waited, added};
+ghost use Rattle.relay_model.specs.Offers.{Waits, conflict, judge as judge_in, offered};
+ghost use Rattle.relay_model.specs.Soundness.{IsBlock, IsSound};
 ghost use Rattle.block_relay.specs.Chronicle.{closed_entries, greeted, limits_told, may_greet, world_told};
+ghost use Rattle.block_relay.specs.Answers.{IsAnswer, is_mem};
 ghost use Rattle.block_relay.specs.Judged.{verdict_of_judged};
 
-use crate::answers::KindFault;
+use crate::answers::{KindFault, OfferFault, Offered};
 use crate::judged::{Judged, judge_open};
 use crate::limits::Limits;
 use crate::marks::Mark;
+use crate::payloads::Payloads;
 use block_record::{Block, Kind, Slip, TypeName, slip_of};
 use fork_db::{Batch, ForkDb, StepItem};
 use relay_look::{Look, LookFault, Position, look};
@@ -46,6 +48,7 @@ pub struct Relay {
     marks: Vec<Mark>,
     conflicts: Vec<Conflict>,
     closed: bool,
+    payloads: Payloads,
     alloc: Global,
 }
 
@@ -59,11 +62,13 @@ impl Model for Relay {
     ghost view = { λ t. record {
       entries = entries_by (Opened t.first t.run (limits_told t.limits)) t.kind (reverse t.marks.items) t.db.history (reverse t.waited.items);
       conflicts = reverse t.conflicts.items;
+      payloads = t.payloads;
     } };
 
     ghost invariant = { λ t. IsKept (world_told (record {
       entries = entries_by (Opened t.first t.run (limits_told t.limits)) t.kind (reverse t.marks.items) t.db.history (reverse t.waited.items);
       conflicts = reverse t.conflicts.items;
+      payloads = t.payloads;
     })) t.db t.room t.kind t.closed t.first t.run
         × (t.closed ≡ false → vec_len t.marks < vec_capacity t.marks)
         × (t.kind ≡ None → has_kind_mark (reverse t.marks.items) ≡ false) };
@@ -71,9 +76,16 @@ impl Model for Relay {
 
 impl Relay {
     /// No block, for blocks with numbers of at least `first`, in the run of this number.
-    pub fn new(alloc: Global, first: u64, run: u64, limits: Limits) -> Result<Relay, AllocError>
+    pub fn new(
+        alloc: Global,
+        first: u64,
+        run: u64,
+        limits: Limits,
+        payloads: Payloads,
+    ) -> Result<Relay, AllocError>
         ensures entries { IfOk result (λ r. r.entries ≡ Opened first run (limits_told limits) ∷ []) }
         ensures conflicts { IfOk result (λ r. r.conflicts ≡ []) }
+        ensures payloads { IfOk result (λ r. r.payloads ≡ payloads) }
     {
         let marks = Vec::with_capacity(alloc, 1)?;
         let db = ForkDb::new(alloc, limits.history)?;
@@ -88,6 +100,7 @@ impl Relay {
             marks,
             conflicts: Vec::new(alloc),
             closed: false,
+            payloads,
             alloc,
         })
     }
@@ -107,6 +120,7 @@ impl Relay {
             × (self.new.entries
             ≡ greeted (world_told self.old).kind kind.now self.old.entries)) }
         ensures conflicts { self.new.conflicts ≡ self.old.conflicts }
+        ensures payloads { self.new.payloads ≡ self.old.payloads }
         ensures err { OnErr result (self.new.entries ≡ self.old.entries) }
         // `KindClash` comes exactly where the types differ, but for want of memory.
         ensures clash { (held offered : List ℕ)
@@ -131,6 +145,7 @@ impl Relay {
         ensures ok { OnOk result
             (self.new.entries ≡ KindEntry kind.now ∷ self.old.entries) }
         ensures conflicts { self.new.conflicts ≡ self.old.conflicts }
+        ensures payloads { self.new.payloads ≡ self.old.payloads }
         ensures err { OnErr result (self.new.entries ≡ self.old.entries) }
     {
         let kept = copy_kind(kind)?;
@@ -168,6 +183,13 @@ impl Relay {
         ensures { reverse result.now ≡ self.now.conflicts }
     {
         self.conflicts.as_slice()
+    }
+
+    /// The history, to be asked for its steps.
+    pub fn history(&self) -> &ForkDb
+        ensures { result.now.history ≡ (world_told self.now).history }
+    {
+        &self.db
     }
 
     /// The slip at a place of the history.
@@ -209,11 +231,29 @@ impl Relay {
         self.db.chunk(batch, from, max, out)
     }
 
+    /// Offers a block by its slip alone, to a relay that lets payloads go. What stands after each
+    /// answer but for want of memory is what the rules say; at `Mem` nothing has changed.
+    pub fn offer_slip(&mut self, slip: Slip) -> Result<Offered, OfferFault>
+        requires block { IsBlock slip }
+        requires payloads { self.old.payloads ≡ Payloads.LetGo }
+        ensures said { IsAnswer (offered (world_told self.old) slip).answer result }
+        ensures entries { is_mem result ≡ false
+            → self.new.entries ≡ added (world_told self.old) slip ++ self.old.entries }
+        ensures world { is_mem result ≡ false
+            → world_told self.new ≡ (offered (world_told self.old) slip).world }
+        ensures mem { is_mem result ≡ true → self.new ≡ self.old }
+        ensures payloads { self.new.payloads ≡ self.old.payloads }
+    {
+        let _ = slip;
+        Err(OfferFault::Mem)
+    }
+
     /// Closes the relay. A second time changes nothing. It takes no memory.
     pub fn close(&mut self)
         ensures entries { self.new.entries
             ≡ closed_entries (world_told self.old).closed self.old.entries }
         ensures conflicts { self.new.conflicts ≡ self.old.conflicts }
+        ensures payloads { self.new.payloads ≡ self.old.payloads }
     {
         if !self.closed {
             self.marks.push_reserved(Mark::Closed);
@@ -253,6 +293,7 @@ impl Relay {
         ensures ok { OnOk result
             (self.new.entries ≡ Waited (slip_of_block block.value) ∷ self.old.entries) }
         ensures conflicts { self.new.conflicts ≡ self.old.conflicts }
+        ensures payloads { self.new.payloads ≡ self.old.payloads }
         ensures err { OnErr result (self.new.entries ≡ self.old.entries) }
     {
         let (slip, kept) = two_slips(self.alloc, &block)?;

@@ -1,6 +1,6 @@
 //! A relay without blocks.
 
-use crate::{KindFault, Limits, Relay};
+use crate::{KindFault, Limits, Payloads, Relay};
 use block_record::{Kind, TypeName, Version};
 use std::alloc::{AllocError, Global};
 use std::process::Abort;
@@ -28,7 +28,7 @@ const GREETINGS: &[(&str, bool)] = &[
 #[test]
 fn the_first_kind_is_kept(rt: HostRuntime) -> Result<(), Fail> {
     let alloc = rt.alloc();
-    let mut relay = Relay::new(alloc, 1, 1, LIMITS)?;
+    let mut relay = Relay::new(alloc, 1, 1, LIMITS, Payloads::LetGo)?;
     for (text, clashes) in GREETINGS {
         let kind = kind_of(&rt, alloc, text)?;
         assert_eq!(rt; is_clash(relay.hello(&kind)), *clashes, "{text}");
@@ -38,7 +38,7 @@ fn the_first_kind_is_kept(rt: HostRuntime) -> Result<(), Fail> {
 
 #[test]
 fn a_relay_is_closed_once(rt: HostRuntime) -> Result<(), Fail> {
-    let mut relay = Relay::new(rt.alloc(), 1, 1, LIMITS)?;
+    let mut relay = Relay::new(rt.alloc(), 1, 1, LIMITS, Payloads::LetGo)?;
     assert!(rt; !relay.closed());
     relay.close();
     relay.close();

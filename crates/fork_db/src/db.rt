@@ -2,10 +2,10 @@
 
 ghost use Rattle.std.specs.Prelude.{◌≡◌, ◌+◌, ◌<◌, ◌≤◌, ◌*◌, ◌^◌, ◌++◌, [], ◌∷◌, length, map, reverse, take, drop, List, Option, option_and_then, OnOk, OnErr, IfOk, IfSome, IsOk, Some, None, Ok, Err, false, set, ℕ};
 ghost use Rattle.std.specs.List.{slice_get, AllByRecursion};
-ghost use Rattle.std.specs.Option.{option_map};
+ghost use Rattle.std.specs.Option.{option_copied, option_map};
 ghost use Rattle.block_record.specs.declared.blocks.Slip.{Slip as SlipOf};
 ghost use Rattle.block_record.specs.Slips.{slip as slip_of_block};
-ghost use Rattle.chain_model.specs.Ancestry.{ancestry, has_id, IsHistory};
+ghost use Rattle.chain_model.specs.Ancestry.{ancestry, find_id, has_id, IsHistory};
 ghost use Rattle.chain_model.specs.Finality.{claim as claim_in, final_tip as final_tip_in, on_path as on_path_in, ClaimsAgree};
 ghost use Rattle.chain_model.specs.declared.places.Mode.{Mode as ModeOf};
 ghost use Rattle.chain_model.specs.Places.{IsAhead, PlaceFits, opening as opening_in, place_along, place_to, steps_to};
@@ -152,9 +152,17 @@ impl ForkDb {
         self.tree.find(id)
     }
 
+    /// The slip of the block with this id.
+    pub fn find_slip(&self, id: &Id) -> Option<&Slip>
+        ensures { option_copied result ≡ find_id self.now.history id.now }
+    {
+        self.tree.find_slip(id)
+    }
+
     /// The head.
     pub fn head(&self) -> Option<usize>
-        ensures { slip_of self.now.history result ≡ head_in self.now.history }
+        ensures head { slip_of self.now.history result ≡ head_in self.now.history }
+        ensures range { IfSome result (λ at. at < length self.now.history) }
     {
         if self.tree.len() == 0 {
             return None;
@@ -164,7 +172,8 @@ impl ForkDb {
 
     /// The last final block.
     pub fn final_tip(&self) -> Option<usize>
-        ensures { slip_of self.now.history result ≡ final_tip_in self.now.history }
+        ensures tip { slip_of self.now.history result ≡ final_tip_in self.now.history }
+        ensures range { IfSome result (λ at. at < length self.now.history) }
     {
         if self.tree.len() == 0 {
             return None;
@@ -363,9 +372,31 @@ impl ForkDb {
             return Verdict::IdHeld;
         }
         match self.tree.find(&block.parent_id) {
-            Some(parent) => judge_child(&self.tree, self.tip, parent, block),
+            Some(parent) => {
+                let child = Child {
+                    num: block.num,
+                    parent_num: block.parent_num,
+                    lib_num: block.lib_num,
+                };
+                judge_child(&self.tree, self.tip, parent, child)
+            }
             None => Verdict::NoParent,
         }
+    }
+
+    /// The same for a block by its slip, whose id is new and whose parent stands at a place.
+    pub fn can_append_on(&self, parent: usize, slip: &Slip) -> Verdict
+        requires fresh { has_id self.now.history slip.now.id ≡ false }
+        requires parent { place_of self.now.history slip.now.parent_id ≡ Some parent }
+        ensures { result ≡ verdict_of self.now.history slip.now }
+    {
+        let _ = self.tree.len();
+        let child = Child {
+            num: slip.num,
+            parent_num: slip.parent_num,
+            lib_num: slip.lib_num,
+        };
+        judge_child(&self.tree, self.tip, parent, child)
     }
 
     /// Makes room for that many more blocks.
@@ -400,12 +431,14 @@ impl ForkDb {
         Ok(())
     }
 
-    /// Appends a block that may come next, and gives its place. `slip` is the block's.
-    pub fn append(&mut self, slip: Slip, block: Arc<Block>) -> Result<usize, ForkFault>
-        requires slip { slip ≡ slip_of_block block.value }
+    /// Appends a block that may come next, and gives its place. `slip` is the block's. Its payload is
+    /// held where the block is given.
+    pub fn append(&mut self, slip: Slip, block: Option<Arc<Block>>) -> Result<usize, ForkFault>
+        requires slip { IfSome block (λ b. slip ≡ slip_of_block b.value) }
         requires fits { verdict_of self.old.history slip ≡ fits }
         ensures place { IfOk result (λ at. at ≡ length self.old.history) }
-        ensures appended { OnOk result (IsAppended self.old self.new slip (Some block.value)) }
+        ensures appended { OnOk result (IsAppended self.old self.new slip
+            (option_map (λ b. b.value) block)) }
         ensures room { OnOk result (self.old.room ≤ self.new.room + 1) }
         ensures kept { OnErr result ((self.new.history ≡ self.old.history)
             × (self.new.held ≡ self.old.held) × (self.new.limit ≡ self.old.limit)) }
@@ -417,26 +450,7 @@ impl ForkDb {
             → result ≡ Err (ForkFault.Full (length self.old.history)) }
     {
         self.reserve(1)?;
-        Ok(self.append_reserved(slip, Some(block)))
-    }
-
-    /// Appends a block that may come next by its slip alone, and gives its place. No payload is held.
-    pub fn append_slip(&mut self, slip: Slip) -> Result<usize, ForkFault>
-        requires fits { verdict_of self.old.history slip ≡ fits }
-        ensures place { IfOk result (λ at. at ≡ length self.old.history) }
-        ensures appended { OnOk result (IsAppended self.old self.new slip None) }
-        ensures room { OnOk result (self.old.room ≤ self.new.room + 1) }
-        ensures kept { OnErr result ((self.new.history ≡ self.old.history)
-            × (self.new.held ≡ self.old.held) × (self.new.limit ≡ self.old.limit)) }
-        ensures succeeds { 0 < self.old.room → IsOk result }
-        // `Full` comes exactly where the limit is reached.
-        ensures full { (n : ℕ) → result ≡ Err (ForkFault.Full n)
-            → (n ≡ length self.old.history) × (n ≡ self.old.limit) }
-        ensures limited { self.old.limit ≡ length self.old.history
-            → result ≡ Err (ForkFault.Full (length self.old.history)) }
-    {
-        self.reserve(1)?;
-        Ok(self.append_reserved(slip, None))
+        Ok(self.append_reserved(slip, block))
     }
 
     /// Appends a block that may come next, for which there is room.
@@ -488,15 +502,24 @@ fn older_claim(tree: &BlockTree, parent: Option<usize>, slip: &Slip) -> Option<u
     }
 }
 
+/// The numbers of a block whose id is new and whose parent is held.
+#[derive(Clone, Copy)]
+struct Child {
+    num: u64,
+    parent_num: u64,
+    lib_num: u64,
+}
+
 /// Whether a block may come next whose id is new and whose parent is held.
-fn judge_child(tree: &BlockTree, tip: usize, parent: usize, block: &Block) -> Verdict
+fn judge_child(tree: &BlockTree, tip: usize, parent: usize, block: Child) -> Verdict
     requires sound { IsHistory tree.now.history }
-    requires fresh { has_id tree.now.history block.now.id ≡ false }
     requires tip { tip < length tree.now.history }
     requires tip_is { slip_at tree.now.history tip ≡ final_tip_in tree.now.history }
-    requires parent { place_of tree.now.history block.now.parent_id ≡ Some parent }
-    ensures { result ≡ parent_verdict tree.now.history (slip_of_block block.now)
-        (slip_at tree.now.history parent) }
+    requires parent { parent < length tree.now.history }
+    ensures { (s : SlipOf) → has_id tree.now.history s.id ≡ false
+        → place_of tree.now.history s.parent_id ≡ Some parent
+        → s.num ≡ block.num → s.parent_num ≡ block.parent_num → s.lib_num ≡ block.lib_num
+        → result ≡ parent_verdict tree.now.history s (slip_at tree.now.history parent) }
 {
     let held = tree.slip(parent);
     if held.num != block.parent_num || held.num >= block.num {

@@ -79,7 +79,7 @@ pub fn append_block(
     assert!(rt; fits);
     let slip = slip_of(alloc, &block)?;
     match Arc::new(alloc, block) {
-        Ok(block) => db.append(slip, block),
+        Ok(block) => db.append(slip, Some(block)),
         Err(_) => Err(ForkFault::Mem),
     }
 }

@@ -305,7 +305,7 @@ fn db_of(rt: &impl Abort, alloc: Global, rows: &[Fields]) -> Result<ForkDb, Fork
         let block = block_of(rt, alloc, *fields)?;
         let fits = matches!(db.can_append(&block), Verdict::Fits);
         assert!(rt; fits);
-        let _ = db.append_slip(into_slip(block))?;
+        let _ = db.append(into_slip(block), None)?;
     }
     Ok(db)
 }

@@ -57,4 +57,4 @@ on_path-requires-then-on_path-clause-b_range c = place_within _ _ c.args.end.now
 
 pub returns-then-on_path : goal.returns-then-on_path
 returns-then-on_path c =
-    fits_there _ _ _ _ _ _ c.in-Some-Some-Some.ensures c.in-Some-Some-Some.ensures' c.in-Some-Some-Some.ensures'' (omega (arith, c.if-tip-len.true, c.len.ensures.len)) _ c.on_path.ensures c.if-on_path.true _ c.on_path-then-on_path.ensures
+    fits_there _ _ _ _ _ _ c.in-Some-Some-Some.ensures c.in-Some-Some-Some.ensures' c.in-Some-Some-Some.ensures''.tip (omega (arith, c.if-tip-len.true, c.len.ensures.len)) _ c.on_path.ensures c.if-on_path.true _ c.on_path-then-on_path.ensures
