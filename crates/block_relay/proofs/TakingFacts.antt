@@ -1,41 +1,27 @@
 -- The waiting blocks as they are taken: what was dropped, as the history grows, and what may be taken next.
-use Rattle.std.proofs.Common.{arith, ◌≡◌, ◌≤◌, ◌+◌, List, [], ◌∷◌, ◌++◌, length, reverse, Option, Some, None, refl, sym, ap, ℕ, false, is_some, filter, inl, inr, subst}
+use Rattle.std.proofs.Common.{arith, ◌≡◌, ◌≤◌, ◌+◌, List, [], ◌∷◌, ◌++◌, length, reverse, Option, Some, None, refl, sym, ap, ◌∙◌, IsSome, ℕ, false, is_some, filter, inl, inr, subst}
 use Rattle.std.specs.List.{AllByRecursion}
-use Rattle.std.proofs.lemmas.List.{reverse-append}
+use Rattle.block_record.specs.declared.blocks.Block.{Block}
 use Rattle.block_record.specs.declared.blocks.Slip.{Slip}
-use Rattle.block_tree.proofs.PlaceFacts.{slip_at_past}
 use Rattle.relay_model.specs.declared.answers.Conflict.{Conflict as Clash}
-use Rattle.block_relay.specs.declared.taking.Dropped.{Dropped}
 use Rattle.relay_model.specs.Worlds.{descendants, descends, least, next_waiting, without}
 use Rattle.relay_model.specs.Offers.{Intake, clash, take_judged, take_one}
 use Rattle.chain_model.specs.Ancestry.{has_id}
 use Rattle.chain_model.specs.Finality.{root_num}
 use Rattle.fork_db.specs.Forks.{Forks}
 use Rattle.fork_db.specs.Verdicts.{verdict_of, fits}
-use Rattle.wait_room.specs.Rooms.{Room, has_child}
+use Rattle.wait_room.specs.Rooms.{Room, has_child, room_without}
 use Rattle.block_record.specs.Ids.{same_id}
 use Rattle.std.proofs.lemmas.Bool.{or_parts}
 use Rattle.relay_model.proofs.Judged.{IsTaker, judged_takes}
 use Rattle.relay_model.proofs.Sound.{first_intake, new_parts, rises_above, starts, swap_ids}
 use Rattle.block_relay.proofs.JudgedFacts.{fits_child}
 use Rattle.relay_model.proofs.Intakes.{keeps_one, next_is}
-use Rattle.block_relay.specs.Taking.{AreWithin, CanStart, CanTake, clashes_seen, dropped_after, history_after}
+use Rattle.block_relay.specs.Taking.{AreAllSome, AreHeld, CanStart, CanTake, HasLimits, dropped_after, history_after}
 use Rattle.block_relay.proofs.CountFacts.{counts_first, counts_one, next_counts}
 
 abbrev pub intake_by : List Slip → List Slip → List Clash → Intake
 intake_by h w ds = record { history = h; waiting = w; dropped = ds }
-
-pub dropped_push : (xs : List Dropped) (x : Dropped) → reverse (xs ++ x ∷ []) ≡ x ∷ reverse xs
-dropped_push xs x = reverse-append xs (x ∷ [])
-
--- one more block of the history changes no conflict
-pub clashes_more : (s : Slip) (newest : List Slip) (xs : List Dropped) → AreWithin newest xs → clashes_seen (s ∷ newest) xs ≡ clashes_seen newest xs
-clashes_more s newest [] all = refl
-clashes_more s newest (x ∷ xs) all = rw (slip_at_past s newest x.held all.0, clashes_more s newest xs all.1) refl
-
-pub within_more : (s : Slip) (newest : List Slip) (xs : List Dropped) → AreWithin newest xs → AreWithin (s ∷ newest) xs
-within_more s newest [] all = tt
-within_more s newest (x ∷ xs) all = (omega (arith, all.0), within_more s newest xs all.1)
 
 -- a block was appended or dropped
 pub placed : (d : Intake) (x : Slip) (o : Option Clash) (h w : List Slip) (ds : List Clash) → h ≡ history_after d.history x o → w ≡ without x d.waiting → ds ≡ dropped_after d.dropped o → intake_by h w ds ≡ take_judged d x o
@@ -103,3 +89,26 @@ none_follows db room s can none =
     nobody (x ∷ xs) all h =
         let parts = or_parts (same_id x.parent_id s.id) (has_child xs s.id) h in
         rw (swap_ids x.parent_id s.id parts.0, all.0) (nobody xs all.1 parts.1)
+
+-- a room without a block keeps its limits
+pub without_blocks : (room : Room) (o : Option Slip) → (room_without room o).most_blocks ≡ room.most_blocks
+without_blocks room None = refl
+without_blocks room (Some s) = refl
+
+pub without_bytes : (room : Room) (o : Option Slip) → (room_without room o).most_bytes ≡ room.most_bytes
+without_bytes room None = refl
+without_bytes room (Some s) = refl
+
+-- one more block that has its payload
+pub all_some_push : (held : List (Option Block)) (o : Option Block) → AreAllSome held → IsSome o → AreAllSome (held ++ o ∷ [])
+all_some_push [] o all some = (some, tt)
+all_some_push (x ∷ xs) o all some = (all.0, all_some_push xs o all.1 some)
+
+-- limits stay twice
+pub limits_twice : (a b c : Forks) (x y z : Room) → HasLimits a x b y → HasLimits b y c z → HasLimits a x c z
+limits_twice a b c x y z h k = record { history = k.history ∙ h.history; blocks = k.blocks ∙ h.blocks; bytes = k.bytes ∙ h.bytes }
+
+-- the value of a block that is given is given
+pub kept_some : (o : Option (Arc Block)) → is_some o ≡ true → IsSome (option_map arc_value o)
+kept_some None e = absurd (grind (arith, e))
+kept_some (Some b) e = tt

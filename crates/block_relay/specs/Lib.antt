@@ -2,3 +2,4 @@ pub mod Answers
 pub mod Judged
 pub mod Chronicle
 pub mod Taking
+pub mod Done

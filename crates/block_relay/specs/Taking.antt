@@ -1,39 +1,43 @@
 -- The waiting blocks that follow an admitted block, as they are taken one by one.
-use Rattle.std.specs.Prelude.{ℕ, ◌≡◌, ◌+◌, ◌≤◌, ◌<◌, true, false, List, [], ◌∷◌, ◌++◌, length, reverse, filter, Option, None, Some, ⊤}
+use Rattle.std.specs.Prelude.{ℕ, ◌≡◌, ◌+◌, ◌≤◌, ◌<◌, true, false, List, [], ◌∷◌, ◌++◌, length, filter, Option, None, Some, IsSome, ⊤}
 use Rattle.std.specs.List.{AllByRecursion}
+use Rattle.block_record.specs.declared.blocks.Block.{Block}
 use Rattle.block_record.specs.declared.blocks.Slip.{Slip}
 use Rattle.chain_model.specs.Ancestry.{find_id, has_id}
-use Rattle.block_tree.specs.Places.{slip_at}
 use Rattle.relay_model.specs.declared.answers.Conflict.{Conflict as Clash}
-use Rattle.relay_model.specs.declared.answers.ConflictKind.{ConflictKind}
 use Rattle.relay_model.specs.Worlds.{World, descendants, descends}
-use Rattle.relay_model.specs.Offers.{Intake, Takes, conflict, judge, take_in}
+use Rattle.relay_model.specs.Offers.{Intake, Takes, judge, take_in}
 use Rattle.relay_model.specs.Soundness.{IsBlock, IsDistinct, IsSound}
 use Rattle.relay_model.proofs.Intakes.{IsTaking}
 use Rattle.fork_db.specs.Forks.{Forks}
-use Rattle.wait_room.specs.Rooms.{Room}
+use Rattle.wait_room.specs.Rooms.{AreKept, Room}
 use Rattle.block_relay.specs.Judged.{HasParts}
 use Rattle.block_relay.specs.declared.answers.OfferFault.{OfferFault}
 use Rattle.block_relay.specs.declared.answers.OfferFault.TheVariants as fault
-use Rattle.block_relay.specs.declared.taking.Dropped.{Dropped}
 
--- the conflict of a block with the one that was found
-abbrev pub clash_with : ConflictKind → Slip → Option Slip → List Clash
-clash_with kind offered None = []
-clash_with kind offered (Some held) = conflict kind held offered ∷ []
-
--- the conflicts of the dropped blocks
-abbrev pub clashes_seen : List Slip → List Dropped → List Clash
-clashes_seen newest [] = []
-clashes_seen newest (x ∷ xs) = clash_with x.kind x.offered (slip_at newest x.held) ++ clashes_seen newest xs
-
--- the conflicts name blocks of the history
-abbrev pub AreWithin : List Slip → List Dropped → Type 0
-AreWithin newest xs = AllByRecursion (λ x. x.held < length newest) xs
+-- the conflicts of the blocks that were dropped, the last one first, and for how many more there is memory
+pub record Dropping : Type 0 where
+  pub conflicts : List Clash
+  pub spare : ℕ
 
 -- how far the waiting blocks are taken
-abbrev pub intake_of : Forks → Room → List Dropped → Intake
-intake_of db room dropped = record { history = db.history; waiting = room.waiting; dropped = clashes_seen db.history (reverse dropped) }
+abbrev pub intake_of : Forks → Room → Dropping → Intake
+intake_of db room drops = record { history = db.history; waiting = room.waiting; dropped = drops.conflicts }
+
+-- each block of the history has its payload
+abbrev pub AreAllSome : List (Option Block) → Type 0
+AreAllSome held = AllByRecursion IsSome held
+
+-- each block of the history and each that waits has its payload
+pub record AreHeld (db : Forks) (room : Room) : Type 0 where
+  pub history : AreAllSome db.held
+  pub waiting : AreKept room
+
+-- the limits of the history and of the room stay
+pub record HasLimits (db : Forks) (room : Room) (db' : Forks) (room' : Room) : Type 0 where
+  pub history : db'.limit ≡ db.limit
+  pub blocks : room'.most_blocks ≡ room.most_blocks
+  pub bytes : room'.most_bytes ≡ room.most_bytes
 
 -- the history after a block whose parent is held, by how it contradicts the history
 abbrev pub history_after : List Slip → Slip → Option Clash → List Slip

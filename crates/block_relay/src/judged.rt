@@ -2,15 +2,16 @@
 
 ghost use Rattle.std.specs.Prelude.{◌≡◌, ◌<◌, ◌++◌, length, IfSome, None, Some, false};
 ghost use Rattle.std.specs.Option.{option_copied};
-ghost use Rattle.block_record.specs.Slips.{slip as slip_of_block, same_slip};
+ghost use Rattle.block_record.specs.Slips.{same_slip};
 ghost use Rattle.chain_model.specs.Ancestry.{find_id, has_id};
 ghost use Rattle.chain_model.specs.Finality.{final_tip, root_num};
 ghost use Rattle.relay_model.specs.Offers.{clash, judge_clash, judge_held, judge_linked as judge_linked_in, judge_parent};
 ghost use Rattle.block_tree.specs.Places.{place_of, slip_at};
+ghost use Rattle.relay_model.specs.Soundness.{IsBlock};
 ghost use Rattle.relay_model.specs.Worlds.{World};
 ghost use Rattle.block_relay.specs.Judged.{HasParts, clash_of, verdict_of_judged};
 
-use block_record::{Block, Id, Slip};
+use block_record::{Id, Slip};
 use fork_db::{ForkDb, Verdict};
 use relay_look::tip_number;
 use relay_model::ConflictKind;
@@ -38,34 +39,19 @@ pub enum Judged<'a> {
     Links,
 }
 
-/// Whether the slip is that of the block.
-pub fn is_slip_of(slip: &Slip, block: &Block) -> bool
-    ensures { result ≡ same_slip slip.now (slip_of_block block.now) }
-{
-    slip.num == block.num
-        && slip.id == block.id
-        && slip.parent_num == block.parent_num
-        && slip.parent_id == block.parent_id
-        && slip.lib_num == block.lib_num
-        && slip.time == block.time
-        && slip.length as usize == block.payload.as_bytes().len()
-        && slip.digest == block.digest
-}
-
 /// How a block contradicts the history, which has its parent at a place and not itself, and with
 /// which block.
-pub fn clash_with(db: &ForkDb, parent: usize, block: &Block) -> Option<(ConflictKind, usize)>
-    requires fresh { has_id db.now.history block.now.id ≡ false }
-    requires parent { place_of db.now.history block.now.parent_id ≡ Some parent }
-    requires rises { block.now.parent_num < block.now.num }
-    ensures clash { clash_of db.now.history (slip_of_block block.now) result
-        ≡ clash db.now.history (slip_of_block block.now) }
+pub fn clash_with(db: &ForkDb, parent: usize, slip: &Slip) -> Option<(ConflictKind, usize)>
+    requires fresh { has_id db.now.history slip.now.id ≡ false }
+    requires parent { place_of db.now.history slip.now.parent_id ≡ Some parent }
+    requires rises { slip.now.parent_num < slip.now.num }
+    ensures clash { clash_of db.now.history slip.now result ≡ clash db.now.history slip.now }
     ensures range { IfSome result (λ p. p.1 < length db.now.history) }
 {
-    if db.slip(parent).num != block.parent_num {
+    if db.slip(parent).num != slip.parent_num {
         return Some((ConflictKind::Parent, parent));
     }
-    match db.can_append(block) {
+    match db.can_append_on(parent, slip) {
         Verdict::Disagrees => Some((ConflictKind::Finality, tip_place(db))),
         _ => None,
     }
@@ -82,15 +68,15 @@ fn tip_place(db: &ForkDb) -> usize
 }
 
 /// The rule for a block whose parent is not held.
-fn judge_orphan<'a>(db: &'a ForkDb, room: &WaitRoom, block: &Block) -> Judged<'a>
+fn judge_orphan<'a>(db: &'a ForkDb, room: &WaitRoom, slip: &Slip) -> Judged<'a>
     ensures { (w : World) → HasParts w db.now room.now
-        → verdict_of_judged w (slip_of_block block.now) result
-        ≡ judge_parent w (slip_of_block block.now) None }
+        → verdict_of_judged w slip.now result
+        ≡ judge_parent w slip.now None }
 {
-    if block.num <= tip_number(db) {
+    if slip.num <= tip_number(db) {
         return Judged::Late;
     }
-    if room.fits(block.payload.as_bytes().len() as u64) {
+    if room.fits(u64::from(slip.length)) {
         Judged::Waits
     } else {
         Judged::NoRoom
@@ -98,36 +84,37 @@ fn judge_orphan<'a>(db: &'a ForkDb, room: &WaitRoom, block: &Block) -> Judged<'a
 }
 
 /// The rule for a block whose parent is held at a place.
-fn judge_child<'a>(db: &'a ForkDb, parent: usize, block: &Block) -> Judged<'a>
-    requires fresh { has_id db.now.history block.now.id ≡ false }
-    requires parent { place_of db.now.history block.now.parent_id ≡ Some parent }
-    requires rises { block.now.parent_num < block.now.num }
+fn judge_child<'a>(db: &'a ForkDb, parent: usize, slip: &Slip) -> Judged<'a>
+    requires fresh { has_id db.now.history slip.now.id ≡ false }
+    requires parent { place_of db.now.history slip.now.parent_id ≡ Some parent }
+    requires rises { slip.now.parent_num < slip.now.num }
     ensures { (w : World) → w.history ≡ db.now.history
-        → verdict_of_judged w (slip_of_block block.now) result
-        ≡ judge_clash w (slip_of_block block.now) (clash w.history (slip_of_block block.now)) }
+        → verdict_of_judged w slip.now result
+        ≡ judge_clash w slip.now (clash w.history slip.now) }
 {
-    match clash_with(db, parent, block) {
+    match clash_with(db, parent, slip) {
         Some((kind, held)) => Judged::Clashes(kind, db.slip(held)),
         None => Judged::Links,
     }
 }
 
 /// The rule for a block that is not held and not below the first number.
-fn judge_linked<'a>(db: &'a ForkDb, room: &WaitRoom, block: &Block) -> Judged<'a>
-    requires { has_id db.now.history block.now.id ≡ false }
+fn judge_linked<'a>(db: &'a ForkDb, room: &WaitRoom, slip: &Slip) -> Judged<'a>
+    requires fresh { has_id db.now.history slip.now.id ≡ false }
+    requires block { IsBlock slip.now }
     ensures { (w : World) → HasParts w db.now room.now
-        → verdict_of_judged w (slip_of_block block.now) result
-        ≡ judge_linked_in w (slip_of_block block.now) w.history }
+        → verdict_of_judged w slip.now result
+        ≡ judge_linked_in w slip.now w.history }
 {
     if db.len() == 0 {
         return Judged::Links;
     }
-    if block.num <= db.slip(0).num {
+    if slip.num <= db.slip(0).num {
         return Judged::Late;
     }
-    match db.find(&block.parent_id) {
-        Some(parent) => judge_child(db, parent, block),
-        None => judge_orphan(db, room, block),
+    match db.find(&slip.parent_id) {
+        Some(parent) => judge_child(db, parent, slip),
+        None => judge_orphan(db, room, slip),
     }
 }
 
@@ -137,33 +124,31 @@ fn held_slip<'a>(db: &'a ForkDb, room: &'a WaitRoom, id: &Id) -> Option<&'a Slip
 {
     match room.find(id) {
         Some(slip) => Some(slip),
-        None => match db.find(id) {
-            Some(at) => Some(db.slip(at)),
-            None => None,
-        },
+        None => db.find_slip(id),
     }
 }
 
 /// The rule that decides an offer, in a relay that is open.
-pub fn judge_open<'a>(first: u64, db: &'a ForkDb, room: &'a WaitRoom, block: &Block) -> Judged<'a>
+pub fn judge_open<'a>(first: u64, db: &'a ForkDb, room: &'a WaitRoom, slip: &Slip) -> Judged<'a>
+    requires { IsBlock slip.now }
     ensures { (w : World) → HasParts w db.now room.now → w.first ≡ first
-        → verdict_of_judged w (slip_of_block block.now) result
-        ≡ judge_held w (slip_of_block block.now)
-        (find_id (w.waiting ++ w.history) block.now.id) }
+        → verdict_of_judged w slip.now result
+        ≡ judge_held w slip.now
+        (find_id (w.waiting ++ w.history) slip.now.id) }
 {
-    match held_slip(db, room, &block.id) {
-        Some(held) => judge_same(held, block),
-        None if block.num < first => Judged::TooEarly,
-        None => judge_linked(db, room, block),
+    match held_slip(db, room, &slip.id) {
+        Some(held) => judge_same(held, slip),
+        None if slip.num < first => Judged::TooEarly,
+        None => judge_linked(db, room, slip),
     }
 }
 
 /// The rule for a block whose id is held.
-fn judge_same<'a>(held: &'a Slip, block: &Block) -> Judged<'a>
-    ensures { (w : World) → verdict_of_judged w (slip_of_block block.now) result
-        ≡ judge_held w (slip_of_block block.now) (Some held.now) }
+fn judge_same<'a>(held: &'a Slip, slip: &Slip) -> Judged<'a>
+    ensures { (w : World) → verdict_of_judged w slip.now result
+        ≡ judge_held w slip.now (Some held.now) }
 {
-    if is_slip_of(held, block) {
+    if held == slip {
         return Judged::Repeats;
     }
     Judged::Clashes(ConflictKind::Id, held)

@@ -2,6 +2,7 @@
 #![tactic(auto)]
 
 mod answers;
+mod drops;
 mod judged;
 mod limits;
 mod marks;

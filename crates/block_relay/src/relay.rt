@@ -1,7 +1,7 @@
 //! The relay.
 
-ghost use Rattle.std.specs.Prelude.{◌++◌, drop, map, take, Option, ◌≡◌, ◌<◌, ◌≤◌, ◌+◌, ◌∷◌, [], length, reverse, vec_len, vec_capacity, ℕ, List, Err, None, false, IsTrue, IfOk, OnErr, OnOk, Some};
-ghost use Rattle.std.specs.Option.{option_copied, option_map};
+ghost use Rattle.std.specs.Prelude.{◌++◌, drop, map, take, Option, ◌≡◌, ◌<◌, ◌≤◌, ◌+◌, ◌^◌, ◌∷◌, [], length, replicate, reverse, vec_len, vec_capacity, ℕ, List, Err, None, false, true, IsTrue, IfOk, IfSome, OnErr, OnOk, Some};
+ghost use Rattle.std.specs.Option.{is_some, option_copied, option_map, option_or};
 ghost use Rattle.block_record.specs.Slips.{slip as slip_of_block};
 ghost use Rattle.block_tree.specs.Places.{slip_at};
 ghost use Rattle.block_record.specs.declared.blocks.Slip.{Slip as SlipOf};
@@ -10,19 +10,22 @@ ghost use Rattle.chain_model.specs.Places.{steps_to};
 ghost use Rattle.fork_db.specs.Batches.{IsGiven, WasGiven, item_seen};
 ghost use Rattle.relay_look.specs.Answers.{FitsAt, HasBatchOf, IsLook, position_of};
 ghost use Rattle.relay_model.specs.Looks.{looked};
-ghost use Rattle.relay_model.specs.Chronicles.{Kind as KindEntry, Opened, Waited, added};
-ghost use Rattle.relay_model.specs.Offers.{Waits, conflict, judge as judge_in, offered};
+ghost use Rattle.relay_model.specs.Chronicles.{Kind as KindEntry, Opened, added};
+ghost use Rattle.relay_model.specs.Offers.{Clashes, Waits, conflict, judge as judge_in, judge_limit, kind_after, offered};
 ghost use Rattle.relay_model.specs.Soundness.{IsBlock, IsSound};
 ghost use Rattle.block_relay.specs.Chronicle.{closed_entries, greeted, limits_told, may_greet, world_told};
 ghost use Rattle.block_relay.specs.Answers.{IsAnswer, is_mem};
+ghost use Rattle.block_relay.specs.Done.{IsDone};
 ghost use Rattle.block_relay.specs.Judged.{verdict_of_judged};
 
 use crate::answers::{KindFault, OfferFault, Offered};
+use crate::drops::Drops;
 use crate::judged::{Judged, judge_open};
 use crate::limits::Limits;
 use crate::marks::Mark;
 use crate::payloads::Payloads;
-use block_record::{Block, Kind, Slip, TypeName, slip_of};
+use crate::taking::{admit, make_room};
+use block_record::{Block, Kind, Slip, TypeName, Version, slip_of};
 use fork_db::{Batch, ForkDb, StepItem};
 use relay_look::{Look, LookFault, Position, look};
 use relay_model::{Conflict, ConflictKind};
@@ -56,6 +59,8 @@ impl Model for Relay {
     ghost use Rattle.std.specs.Prelude.{◌≡◌, ◌<◌, reverse, vec_len, vec_capacity, false, None};
     ghost use Rattle.relay_model.specs.Chronicles.{Opened};
     ghost use Rattle.block_relay.specs.Chronicle.{IsKept, Told, entries_by, has_kind_mark, limits_told, world_told};
+    ghost use Rattle.block_relay.specs.Taking.{AreHeld};
+    ghost use Rattle.block_relay.specs.declared.payloads.Payloads.TheVariants.{Kept};
 
     ghost Value = { Told };
 
@@ -71,7 +76,8 @@ impl Model for Relay {
       payloads = t.payloads;
     })) t.db t.room t.kind t.closed t.first t.run
         × (t.closed ≡ false → vec_len t.marks < vec_capacity t.marks)
-        × (t.kind ≡ None → has_kind_mark (reverse t.marks.items) ≡ false) };
+        × (t.kind ≡ None → has_kind_mark (reverse t.marks.items) ≡ false)
+        × (t.payloads ≡ Kept → AreHeld t.db t.room) };
 }
 
 impl Relay {
@@ -231,8 +237,26 @@ impl Relay {
         self.db.chunk(batch, from, max, out)
     }
 
-    /// Offers a block by its slip alone, to a relay that lets payloads go. What stands after each
-    /// answer but for want of memory is what the rules say; at `Mem` nothing has changed.
+    /// Offers a block. What it is answered, and what stands then, is what the rules say; at `Mem`
+    /// nothing has changed.
+    pub fn offer(&mut self, block: Arc<Block>) -> Result<Offered, OfferFault>
+        ensures said { IsAnswer
+            (offered (world_told self.old) (slip_of_block block.value)).answer result }
+        ensures entries { is_mem result ≡ false → self.new.entries
+            ≡ added (world_told self.old) (slip_of_block block.value) ++ self.old.entries }
+        ensures world { is_mem result ≡ false → world_told self.new
+            ≡ (offered (world_told self.old) (slip_of_block block.value)).world }
+        ensures mem { is_mem result ≡ true → self.new ≡ self.old }
+        ensures payloads { self.new.payloads ≡ self.old.payloads }
+    {
+        let slip = slip_of(self.alloc, &block)?;
+        match self.payloads {
+            Payloads::Kept => self.take(slip, Some(block)),
+            Payloads::LetGo => self.take(slip, None),
+        }
+    }
+
+    /// Offers a block by its slip alone, to a relay that lets payloads go. The same is answered.
     pub fn offer_slip(&mut self, slip: Slip) -> Result<Offered, OfferFault>
         requires block { IsBlock slip }
         requires payloads { self.old.payloads ≡ Payloads.LetGo }
@@ -244,8 +268,7 @@ impl Relay {
         ensures mem { is_mem result ≡ true → self.new ≡ self.old }
         ensures payloads { self.new.payloads ≡ self.old.payloads }
     {
-        let _ = slip;
-        Err(OfferFault::Mem)
+        self.take(slip, None)
     }
 
     /// Closes the relay. A second time changes nothing. It takes no memory.
@@ -262,14 +285,59 @@ impl Relay {
     }
 
     /// Which rule decides an offer. It takes no memory.
-    fn judge(&self, block: &Block) -> Judged<'_>
-        ensures { verdict_of_judged (world_told self.now) (slip_of_block block.now) result
-            ≡ judge_in (world_told self.now) (slip_of_block block.now) }
+    fn judge(&self, slip: &Slip) -> Judged<'_>
+        requires { IsBlock slip.now }
+        ensures { verdict_of_judged (world_told self.now) slip.now result
+            ≡ judge_in (world_told self.now) slip.now }
     {
         if self.closed {
             return Judged::Shut;
         }
-        judge_open(self.first, &self.db, &self.room, block)
+        judge_open(self.first, &self.db, &self.room, slip)
+    }
+
+    /// Takes an offered block, which is given where its payload is kept.
+    fn take(&mut self, slip: Slip, block: Option<Arc<Block>>) -> Result<Offered, OfferFault>
+        requires own { IfSome block (λ b. slip ≡ slip_of_block b.value) }
+        requires block { IsBlock slip }
+        requires payloads { self.old.payloads ≡ Payloads.Kept → is_some block ≡ true }
+        ensures { IsDone (judge_in (world_told self.old) slip) slip self.old self.new result }
+    {
+        match self.judge(&slip) {
+            Judged::Shut => Err(OfferFault::Closed { len: self.db.len() }),
+            Judged::Repeats => Ok(Offered::Duplicate),
+            Judged::Clashes(kind, held) => {
+                let held = held.clone()?;
+                self.refuse(kind, held, slip)
+            }
+            Judged::TooEarly => Ok(Offered::Early),
+            Judged::Late => Ok(Offered::Stale),
+            Judged::NoRoom => Err(OfferFault::WaitFull {
+                blocks: self.room.blocks(),
+                bytes: self.room.bytes(),
+            }),
+            Judged::Waits => self.let_wait(slip, block),
+            Judged::Links => self.admit(slip, block),
+        }
+    }
+
+    /// Notes a conflict and tells it.
+    fn refuse(
+        &mut self,
+        kind: ConflictKind,
+        held: Slip,
+        offered: Slip,
+    ) -> Result<Offered, OfferFault>
+        ensures { IsDone (Clashes (conflict kind held offered)) offered
+            self.old self.new result }
+    {
+        let told = Conflict {
+            kind,
+            held: held.clone()?,
+            offered: offered.clone()?,
+        };
+        self.note(kind, held, offered)?;
+        Err(OfferFault::Conflict(told))
     }
 
     /// Notes a conflict. At an error nothing has changed.
@@ -277,6 +345,7 @@ impl Relay {
         ensures entries { self.new.entries ≡ self.old.entries }
         ensures conflicts { OnOk result
             (self.new.conflicts ≡ conflict kind held offered ∷ self.old.conflicts) }
+        ensures payloads { self.new.payloads ≡ self.old.payloads }
         ensures err { OnErr result (self.new.conflicts ≡ self.old.conflicts) }
     {
         self.conflicts.push(Conflict {
@@ -287,21 +356,50 @@ impl Relay {
         Ok(())
     }
 
-    /// Lets a block wait. At an error nothing has changed.
-    fn let_wait(&mut self, block: Arc<Block>) -> Result<(), AllocError>
-        requires { judge_in (world_told self.old) (slip_of_block block.value) ≡ Waits }
-        ensures ok { OnOk result
-            (self.new.entries ≡ Waited (slip_of_block block.value) ∷ self.old.entries) }
-        ensures conflicts { self.new.conflicts ≡ self.old.conflicts }
-        ensures payloads { self.new.payloads ≡ self.old.payloads }
-        ensures err { OnErr result (self.new.entries ≡ self.old.entries) }
+    /// Lets a block wait.
+    fn let_wait(&mut self, slip: Slip, block: Option<Arc<Block>>) -> Result<Offered, OfferFault>
+        requires own { IfSome block (λ b. slip ≡ slip_of_block b.value) }
+        requires block { IsBlock slip }
+        requires payloads { self.old.payloads ≡ Payloads.Kept → is_some block ≡ true }
+        requires waits { judge_in (world_told self.old) slip ≡ Waits }
+        ensures { IsDone Waits slip self.old self.new result }
     {
-        let (slip, kept) = two_slips(self.alloc, &block)?;
-        make_room(&mut self.waited, &mut self.marks)?;
+        let kept = slip.clone()?;
+        reserve_waiting(&mut self.waited, &mut self.marks)?;
         self.room.put(slip, block)?;
         self.waited.push_reserved(kept);
         self.marks.push_reserved(Mark::Waited);
-        Ok(())
+        Ok(Offered::Waiting)
+    }
+
+    /// Admits a block that links, with the waiting blocks that follow it, where the limit has room.
+    fn admit(&mut self, slip: Slip, block: Option<Arc<Block>>) -> Result<Offered, OfferFault>
+        requires own { IfSome block (λ b. slip ≡ slip_of_block b.value) }
+        requires block { IsBlock slip }
+        requires payloads { self.old.payloads ≡ Payloads.Kept → is_some block ≡ true }
+        requires links { judge_in (world_told self.old) slip
+            ≡ judge_limit (world_told self.old) slip }
+        ensures { IsDone (judge_in (world_told self.old) slip) slip self.old self.new result }
+    {
+        let from = self.db.len();
+        let follow = make_room(&mut self.db, &self.room, &slip.id)?;
+        let mut drops = Drops::new(self.alloc, follow as usize)?;
+        reserve_admitted(&mut self.marks, &mut self.conflicts, follow)?;
+        let root_kind = kind_of_root(self.alloc, from, &self.kind)?;
+        admit(&mut self.db, &mut self.room, &mut drops, slip, block);
+        let count = self.db.len() - from;
+        if let Some(kind) = root_kind {
+            self.kind = Some(kind);
+            self.marks.push_reserved(Mark::Kind);
+        }
+        mark_admitted(&mut self.marks, count);
+        let (mut noted, dropped) = drops.into_lists();
+        let _ = self.conflicts.append(&mut noted);
+        Ok(Offered::Admitted {
+            from,
+            count,
+            dropped,
+        })
     }
 }
 
@@ -335,18 +433,8 @@ fn two_types(held: &Kind, offered: &Kind) -> Result<(TypeName, TypeName), AllocE
     Ok((held, offered))
 }
 
-/// The slip of a block, twice.
-fn two_slips(alloc: Global, block: &Block) -> Result<(Slip, Slip), AllocError>
-    ensures { IfOk result
-        (λ p. (p.0 ≡ slip_of_block block.now) × (p.1 ≡ slip_of_block block.now)) }
-{
-    let first = slip_of(alloc, block)?;
-    let second = slip_of(alloc, block)?;
-    Ok((first, second))
-}
-
 /// Makes room for a block that waits, and for the last mark after it.
-fn make_room(waited: &mut Vec<Slip>, marks: &mut Vec<Mark>) -> Result<(), AllocError>
+fn reserve_waiting(waited: &mut Vec<Slip>, marks: &mut Vec<Mark>) -> Result<(), AllocError>
     ensures waited { waited.new.items ≡ waited.old.items }
     ensures marks { marks.new.items ≡ marks.old.items }
     ensures len { vec_len marks.new ≡ vec_len marks.old }
@@ -356,4 +444,52 @@ fn make_room(waited: &mut Vec<Slip>, marks: &mut Vec<Mark>) -> Result<(), AllocE
 {
     waited.reserve(1)?;
     marks.reserve(2)
+}
+
+/// Makes room for a block that is admitted and those that follow it, for the mark of the kind, and for
+/// the last mark; and for as many conflicts as blocks follow.
+fn reserve_admitted(
+    marks: &mut Vec<Mark>,
+    conflicts: &mut Vec<Conflict>,
+    follow: u64,
+) -> Result<(), AllocError>
+    requires { follow < 2 ^ 63 }
+    ensures marks { marks.new.items ≡ marks.old.items }
+    ensures conflicts { conflicts.new.items ≡ conflicts.old.items }
+    ensures len { vec_len marks.new ≡ vec_len marks.old }
+    ensures capacity { vec_capacity marks.old ≤ vec_capacity marks.new }
+    ensures ok { OnOk result ((vec_len marks.new + (follow + 3) ≤ vec_capacity marks.new)
+        × (vec_len conflicts.new + follow ≤ vec_capacity conflicts.new)) }
+{
+    marks.reserve(follow as usize + 3)?;
+    conflicts.reserve(follow as usize)
+}
+
+/// The kind that a root brings where none is kept: that of nodes that tell none.
+fn kind_of_root(alloc: Global, len: u64, kept: &Option<Kind>) -> Result<Option<Kind>, AllocError>
+    ensures { (older : List SlipOf) → len ≡ length older
+        → IfOk result (λ k. option_or kept.now k ≡ kind_after kept.now older) }
+{
+    if len != 0 || kept.is_some() {
+        return Ok(None);
+    }
+    match TypeName::new(alloc, b"-")? {
+        Some(block_type) => Ok(Some(Kind {
+            version: Version::V3,
+            block_type,
+        })),
+        None => Ok(None),
+    }
+}
+
+/// Marks so many blocks as admitted.
+fn mark_admitted(marks: &mut Vec<Mark>, count: u64)
+    requires { vec_len marks.old + count ≤ vec_capacity marks.old }
+    ensures items { marks.new.items ≡ marks.old.items ++ replicate count Mark.Admitted }
+    ensures len { vec_len marks.new ≡ vec_len marks.old + count }
+    ensures capacity { vec_capacity marks.new ≡ vec_capacity marks.old }
+{
+    for _ in 0..count {
+        marks.push_reserved(Mark::Admitted);
+    }
 }

@@ -8,7 +8,7 @@ ghost use Rattle.relay_look.specs.Answers.{seen_misfit};
 ghost use Rattle.relay_model.specs.Looks.{end_fits as end_fits_in, ends_at_parent as ends_at_parent_in, id_of, is_ahead as is_ahead_in, lib_fits as lib_fits_in, misfit as misfit_in, shape_holds as shape_holds_in, unknown as unknown_in};
 
 use crate::paths::{
-    find_slip, is_final, is_held, is_known, is_on_path, is_parent, is_ref, place_in,
+    is_final, is_held, is_known, is_on_path, is_parent, is_ref, place_in,
 };
 use block_record::{BlockRef, Id};
 use chain_model::{Place, Step};
@@ -119,7 +119,7 @@ fn shape_holds(db: &ForkDb, step: Step, block: &BlockRef, place: &Place) -> bool
 fn ends_at_parent(db: &ForkDb, id: &Id, end: &Option<BlockRef>) -> bool
     ensures { result ≡ ends_at_parent_in end.now (find_id db.now.history id.now) }
 {
-    match find_slip(db, id) {
+    match db.find_slip(id) {
         Some(slip) => is_parent(slip, end),
         None => false,
     }

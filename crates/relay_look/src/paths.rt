@@ -16,13 +16,10 @@ use fork_db::ForkDb;
 pub fn tip_number(db: &ForkDb) -> u64
     ensures { result ≡ tip_num db.now.history }
 {
-    let Some(tip) = db.final_tip() else {
-        return 0;
-    };
-    if tip as u64 >= db.len() {
-        return 0;
+    match db.final_tip() {
+        Some(tip) => db.slip(tip).num,
+        None => 0,
     }
-    db.slip(tip).num
 }
 
 /// Whether a block has the id.
@@ -32,21 +29,11 @@ pub fn is_known(db: &ForkDb, id: &Id) -> bool
     db.find(id).is_some()
 }
 
-/// The block with this id.
-pub fn find_slip<'a>(db: &'a ForkDb, id: &Id) -> Option<&'a Slip>
-    ensures { option_copied result ≡ find_id db.now.history id.now }
-{
-    match db.find(id) {
-        Some(at) => Some(db.slip(at)),
-        None => None,
-    }
-}
-
 /// Whether the block is held, with its number.
 pub fn is_held(db: &ForkDb, block: &BlockRef) -> bool
     ensures { result ≡ is_held_in db.now.history block.now }
 {
-    match find_slip(db, &block.id) {
+    match db.find_slip(&block.id) {
         Some(slip) => slip.num == block.num,
         None => false,
     }

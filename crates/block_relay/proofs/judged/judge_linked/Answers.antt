@@ -1,5 +1,4 @@
 use Rattle.std.proofs.Common.{arith, ◌≡◌, ◌<◌, Some, None, ap, sym, ◌∙◌}
-use Rattle.block_record.specs.Slips.{slip}
 use Rattle.chain_model.specs.Ancestry.{find_id}
 use Rattle.chain_model.specs.Finality.{root_num}
 use Rattle.block_tree.proofs.PlaceFacts.{find_none, place_slip}
@@ -7,15 +6,15 @@ use Rattle.relay_model.specs.Offers.{judge_parent}
 use Rattle.block_relay.proofs.JudgedFacts.{above_root, late_root, root_first}
 use Rattle.block_relay.proofs.judged.judge_linked.Goals as goal
 
-pub returns-then-block-slip : goal.returns-then-block-slip
-returns-then-block-slip c =
-    λ w parts. late_root w (slip c.args.block.now) c.args.db.now.history parts.history (omega arith)
+pub returns-then-slip-slip : goal.returns-then-slip-slip
+returns-then-slip-slip c =
+    λ w parts. late_root w c.args.slip.now c.args.db.now.history parts.history (omega arith)
     (let root = root_first c.args.db.now.history c.slip.result.now c.slip.ensures in omega (arith, root))
 
 pub returns-in-Some : goal.returns-in-Some
 returns-in-Some c =
     λ w parts.
-    let s = slip c.args.block.now in
+    let s = c.args.slip.now in
     let newest = c.args.db.now.history in
     let root = root_first newest c.slip.result.now c.slip.ensures in
     let high : root_num newest < s.num = omega (arith, root) in
@@ -26,7 +25,7 @@ returns-in-Some c =
 pub returns-in-None : goal.returns-in-None
 returns-in-None c =
     λ w parts.
-    let s = slip c.args.block.now in
+    let s = c.args.slip.now in
     let newest = c.args.db.now.history in
     let root = root_first newest c.slip.result.now c.slip.ensures in
     let high : root_num newest < s.num = omega (arith, root) in

@@ -3,9 +3,9 @@ use Rattle.std.specs.Option.{option_copied}
 use Rattle.relay_model.proofs.Sound.{lacks_parts, none_found}
 use Rattle.block_relay.proofs.judged.judge_open.Goals as goal
 
-pub judge_linked-requires : goal.judge_linked-requires
-judge_linked-requires c =
+pub judge_linked-requires-clause-fresh : goal.judge_linked-requires-clause-fresh
+judge_linked-requires-clause-fresh c =
     let room = c.args.room.now.waiting in
     let newest = c.args.db.now.history in
-    let id = c.args.block.now.id in
+    let id = c.args.slip.now.id in
     (lacks_parts room newest id (none_found (room ++ newest) id (sym c.held_slip.ensures ∙ ap option_copied c.in-None.is))).1

@@ -16,8 +16,15 @@ follow-requires-clause-can c =
     let more = (on_ok c.append.result _ done c.append.ensures.appended).history in
     let room = on_ok c.append.result _ done c.append.ensures.room in
     let left : descendants c.args.room.now.waiting c.args.slip.id ≤ c.append.new.self.room = omega (arith, room, c.requires.room) in
-    let same : intake_of c.append.new.self c.args.room.now c.args.dropped.now.items ≡ intake_by (c.args.slip ∷ c.args.db.now.history) c.args.room.now.waiting [] = rw (more, c.requires.empty) refl in
+    let same : intake_of c.append.new.self c.args.room.now c.args.drops.now ≡ intake_by (c.args.slip ∷ c.args.db.now.history) c.args.room.now.waiting [] = rw (more, c.requires.empty) refl in
     subst (λ (e : Intake). CanTake e c.append.new.self.room) (sym same) (start_can c.args.db.now c.args.room.now c.args.slip c.append.new.self.room c.requires.can left)
+
+pub follow-requires-clause-spare : goal.follow-requires-clause-spare
+follow-requires-clause-spare c =
+    let some : 0 < c.args.db.now.room = omega arith in
+    let more = (on_ok c.append.result _ (c.append.ensures.succeeds some) c.append.ensures.appended).history in
+    let same : intake_of c.append.new.self c.args.room.now c.args.drops.now ≡ intake_by (c.args.slip ∷ c.args.db.now.history) c.args.room.now.waiting [] = rw (more, c.requires.empty) refl in
+    subst (λ (e : Intake). CanTake e c.args.drops.now.spare) (sym same) (start_can c.args.db.now c.args.room.now c.args.slip c.args.drops.now.spare c.requires.can c.requires.spare)
 
 pub follow-requires-clause-any : goal.follow-requires-clause-any
 follow-requires-clause-any c =

@@ -7,7 +7,7 @@ use Rattle.relay_model.specs.Offers.{Intake, clash, take_one}
 use Rattle.relay_model.proofs.Intakes.{next_is}
 use Rattle.block_relay.specs.Taking.{CanTake, intake_of}
 use Rattle.block_relay.proofs.CountFacts.{next_counts}
-use Rattle.block_relay.proofs.TakingFacts.{next_can, placed}
+use Rattle.block_relay.proofs.TakingFacts.{next_can, placed, without_blocks, without_bytes}
 use Rattle.block_relay.proofs.taking.take_next.Goals as goal
 
 pub place-requires-clause-fresh : goal.place-requires-clause-fresh
@@ -40,22 +40,40 @@ place-requires-clause-room c =
     let k = next_counts can.world can.first _ can.counted x (next_is h c.args.room.now.waiting x next) in
     omega (arith, k.fewer, can.enough)
 
+pub place-requires-clause-spare : goal.place-requires-clause-spare
+place-requires-clause-spare c =
+    let h = c.args.db.now.history in
+    let x = c.in-Some.slip in
+    let can = c.requires.spare in
+    let next : next_waiting h c.args.room.now.waiting ≡ Some x = sym c.take_next.ensures.next ∙ ap (option_map (λ p. p.0)) c.in-Some.is in
+    let k = next_counts can.world can.first _ can.counted x (next_is h c.args.room.now.waiting x next) in
+    omega (arith, k.fewer, can.enough)
+
 pub returns-in-Some-clause-can : goal.returns-in-Some-clause-can
 returns-in-Some-clause-can c =
     let h = c.args.db.now.history in
     let x = c.in-Some.slip in
-    let d = intake_of c.args.db.now c.args.room.now c.args.dropped.now.items in
+    let d = intake_of c.args.db.now c.args.room.now c.args.drops.now in
     let next : next_waiting h c.args.room.now.waiting ≡ Some x = sym c.take_next.ensures.next ∙ ap (option_map (λ p. p.0)) c.in-Some.is in
     let left : c.take_next.new.self.waiting ≡ without x c.args.room.now.waiting = ap (λ (r : Room). r.waiting) (c.take_next.ensures.room ∙ ap (room_without c.args.room.now) next) in
-    let after : intake_of c.place.new.db c.take_next.new.self c.place.new.dropped.items ≡ take_one d (Some x) = placed d x (clash h x) _ _ _ c.place.ensures.history left c.place.ensures.dropped in
+    let after : intake_of c.place.new.db c.take_next.new.self c.place.new.drops ≡ take_one d (Some x) = placed d x (clash h x) _ _ _ c.place.ensures.history left c.place.ensures.dropped in
     subst (λ (e : Intake). CanTake e c.place.new.db.room) (sym after) (next_can d x c.args.db.now.room c.place.new.db.room c.requires.can next c.place.ensures.room)
 
-pub returns-in-Some-clause-capacity : goal.returns-in-Some-clause-capacity
-returns-in-Some-clause-capacity c =
+pub returns-in-Some-clause-spare : goal.returns-in-Some-clause-spare
+returns-in-Some-clause-spare c =
     let h = c.args.db.now.history in
     let x = c.in-Some.slip in
-    let can = c.requires.can in
+    let d = intake_of c.args.db.now c.args.room.now c.args.drops.now in
     let next : next_waiting h c.args.room.now.waiting ≡ Some x = sym c.take_next.ensures.next ∙ ap (option_map (λ p. p.0)) c.in-Some.is in
-    let k = next_counts can.world can.first _ can.counted x (next_is h c.args.room.now.waiting x next) in
-    let left = ap (λ (r : Room). length r.waiting) (c.take_next.ensures.room ∙ ap (room_without c.args.room.now) next) in
-    omega (arith, k.shorter, left, c.requires.capacity, c.place.ensures.len, c.place.ensures.capacity)
+    let left : c.take_next.new.self.waiting ≡ without x c.args.room.now.waiting = ap (λ (r : Room). r.waiting) (c.take_next.ensures.room ∙ ap (room_without c.args.room.now) next) in
+    let after : intake_of c.place.new.db c.take_next.new.self c.place.new.drops ≡ take_one d (Some x) = placed d x (clash h x) _ _ _ c.place.ensures.history left c.place.ensures.dropped in
+    subst (λ (e : Intake). CanTake e c.place.new.drops.spare) (sym after) (next_can d x c.args.drops.now.spare c.place.new.drops.spare c.requires.spare next c.place.ensures.spare)
+
+pub returns-in-Some-clause-limits : goal.returns-in-Some-clause-limits
+returns-in-Some-clause-limits c =
+    let o = next_waiting c.args.db.now.history c.args.room.now.waiting in
+    record {
+      history = c.place.ensures.limit;
+      blocks = ap (λ (r : Room). r.most_blocks) c.take_next.ensures.room ∙ without_blocks c.args.room.now o;
+      bytes = ap (λ (r : Room). r.most_bytes) c.take_next.ensures.room ∙ without_bytes c.args.room.now o;
+    }
