@@ -1,15 +1,17 @@
 -- What a relay keeps as it takes one more thing.
-use Rattle.std.proofs.Common.{arith, cond, leb, ltb, inl, inr, None, Some, IsTrue, ◌≡◌, ◌++◌, ℕ, Bool, true, false, List, [], ◌∷◌, Option, reverse, refl, sym, ◌∙◌, ap}
-use Rattle.std.proofs.lemmas.List.{reverse-append}
+use Rattle.std.proofs.Common.{arith, cond, leb, ltb, inl, inr, None, Some, IsTrue, ◌≡◌, ◌++◌, ℕ, Bool, true, false, List, [], ◌∷◌, Option, reverse, replicate, length, map, zero, suc, ◌+◌, refl, sym, ◌∙◌, ap, subst, append_assoc, is_some}
+use Rattle.std.specs.Option.{option_or}
+use Rattle.std.proofs.lemmas.List.{replicate_more, reverse-append}
 use Rattle.std.proofs.lemmas.Bool.{cases_Bool, lt-ltb}
 use Rattle.block_record.specs.declared.blocks.Block.{Block}
 use Rattle.block_record.specs.declared.blocks.Slip.{Slip}
 use Rattle.block_record.specs.declared.blocks.Kind.{Kind as NodeKind}
 use Rattle.relay_model.specs.declared.answers.Conflict.{Conflict as Clash}
 use Rattle.relay_model.specs.Worlds.{World, has_room}
-use Rattle.relay_model.specs.Chronicles.{Entry, Admitted, Closed, Kind, Stored, Waited, still_waits}
+use Rattle.relay_model.specs.Chronicles.{Entry, Admitted, Closed, Kind, Stored, Waited, added, added_by, still_waits, world_of}
 use Rattle.relay_model.specs.Soundness.{IsBlock, IsSound}
-use Rattle.relay_model.specs.Offers.{Waits, clash, judge, judge_clash, judge_held, judge_linked, judge_parent, tip_num, world_by}
+use Rattle.relay_model.specs.Offers.{Intake, intake, kind_after, purged, Verdict, Shut, Repeats, Clashes, TooEarly, Late, NoRoom, Waits, Passes, Takes, clash, judge, judge_clash, judge_held, judge_linked, judge_parent, offered, tip_num, world_by}
+use Rattle.relay_model.proofs.Entries.{offer_adds}
 use Rattle.relay_model.proofs.Judged.{judged_waits, limit_takes}
 use Rattle.relay_model.proofs.Sound.{keeps_by, new_parts, none_found}
 use Rattle.chain_model.specs.Ancestry.{find_id, has_id}
@@ -17,12 +19,15 @@ use Rattle.chain_model.specs.Finality.{root_num}
 use Rattle.fork_db.specs.Forks.{Forks}
 use Rattle.wait_room.specs.Rooms.{Room, fits_in, with_block}
 use Rattle.block_relay.specs.declared.marks.Mark.{Mark}
+use Rattle.block_relay.specs.declared.payloads.Payloads.TheVariants as payloads
 use Rattle.block_relay.specs.declared.marks.Mark.TheVariants as mark
-use Rattle.block_relay.specs.Chronicle.{IsKept, Told, entries_by, has_kind_mark, world_told}
+use Rattle.block_relay.specs.Chronicle.{IsKept, Told, entries_by, has_kind_mark, kind_entry, kind_mark, world_told}
 use Rattle.block_relay.specs.Judged.{HasParts}
+use Rattle.block_relay.specs.Taking.{HasLimits, intake_from}
+use Rattle.relay_model.proofs.Intakes.{taking_grows}
 
 abbrev pub told : List Entry → List Clash → Told
-told es cs = record { entries = es; conflicts = cs }
+told es cs = record { entries = es; conflicts = cs; payloads = payloads.Kept }
 
 pub marks_push : (ms : List Mark) (m : Mark) → reverse (ms ++ m ∷ []) ≡ m ∷ reverse ms
 marks_push ms m = reverse-append ms (m ∷ [])
@@ -114,7 +119,7 @@ pub lacks_room : (w : World) (s : Slip) (db : Forks) (room : Room) → HasParts 
 lacks_room w s db room parts e = rw (← parts.waiting) (new_parts w s (judged_waits w s e).new).0
 
 -- a block waits
-pub waits : (es : List Entry) (cs : List Clash) (db : Forks) (room : Room) (kept : Option NodeKind) (shut : Bool) (first run : ℕ) (s : Slip) (b : Block) → IsKept (world_told (told es cs)) db room kept shut first run
+pub waits : (es : List Entry) (cs : List Clash) (db : Forks) (room : Room) (kept : Option NodeKind) (shut : Bool) (first run : ℕ) (s : Slip) (b : Option Block) → IsKept (world_told (told es cs)) db room kept shut first run
     → judge (world_told (told es cs)) s ≡ Waits → IsBlock s → IsKept (world_told (told (Waited s ∷ es) cs)) db (with_block room s b) kept shut first run
 waits es cs db room kept shut first run s b k e block =
     let w = world_told (told es cs) in
@@ -158,3 +163,116 @@ keeps_kind es cs db room kept shut first run k is = record {
   limit = is.limit;
   sound = same_parts (world_told (told es cs)) (world_told (told (Kind k ∷ es) cs)) refl refl is.sound;
 }
+
+-- a world with other conflicts
+abbrev pub with_conflicts : World → List Clash → World
+with_conflicts w cs = record w { conflicts = cs }
+
+-- what a verdict adds and leaves does not hang on the conflicts that were noted
+added_same : (w : World) (cs : List Clash) (s : Slip) (v : Verdict) → added_by (with_conflicts w cs) s v ≡ added_by w s v
+added_same w cs s Shut = refl
+added_same w cs s Repeats = refl
+added_same w cs s (Clashes c) = refl
+added_same w cs s TooEarly = refl
+added_same w cs s Late = refl
+added_same w cs s NoRoom = refl
+added_same w cs s Waits = refl
+added_same w cs s (Passes need) = refl
+added_same w cs s Takes = refl
+
+left_same : (w : World) (cs : List Clash) (s : Slip) (v : Verdict) → with_conflicts (world_by w s v) (world_by (with_conflicts w cs) s v).conflicts ≡ world_by (with_conflicts w cs) s v
+left_same w cs s Shut = refl
+left_same w cs s Repeats = refl
+left_same w cs s (Clashes c) = refl
+left_same w cs s TooEarly = refl
+left_same w cs s Late = refl
+left_same w cs s NoRoom = refl
+left_same w cs s Waits = refl
+left_same w cs s (Passes need) = refl
+left_same w cs s Takes = refl
+
+-- the entries and the conflicts after an offer stand for the world that it leaves
+pub told_offered : (es : List Entry) (cs : List Clash) (s : Slip) → IsSound (world_told (told es cs)) → IsBlock s
+    → world_told (told (added (world_told (told es cs)) s ++ es) (offered (world_told (told es cs)) s).world.conflicts) ≡ (offered (world_told (told es cs)) s).world
+told_offered es cs s sound block =
+    let w = world_of es in
+    let left = (offered (world_told (told es cs)) s).world.conflicts in
+    ap (λ l. world_told (told (l ++ es) left)) (added_same w cs s (judge w s))
+    ∙ ap (λ v. with_conflicts v left) (offer_adds es s (same_parts (world_told (told es cs)) w refl refl sound) block)
+    ∙ left_same w cs s (judge w s)
+
+-- a row of one mark, turned over
+row_reverse : (n : ℕ) (m : Mark) → reverse (replicate n m) ≡ replicate n m
+row_reverse zero m = refl
+row_reverse (suc n) m = reverse-append (m ∷ []) (replicate n m) ∙ ap (λ l. l ++ m ∷ []) (row_reverse n m) ∙ replicate_more n m ∙ ap (λ k. replicate k m) (let e : n + 1 ≡ suc n = omega arith in e)
+
+kind_reverse : (root : Option NodeKind) → reverse (kind_mark root) ≡ kind_mark root
+kind_reverse None = refl
+kind_reverse (Some k) = refl
+
+-- the marks of an admission: that of the kind of a root, and so many of admitted blocks
+pub marks_reverse : (ms : List Mark) (root : Option NodeKind) (n : ℕ) → reverse ((ms ++ kind_mark root) ++ replicate n mark.Admitted) ≡ replicate n mark.Admitted ++ (kind_mark root ++ reverse ms)
+marks_reverse ms root n =
+    reverse-append (ms ++ kind_mark root) (replicate n mark.Admitted)
+    ∙ ap (λ l. l ++ reverse (ms ++ kind_mark root)) (row_reverse n mark.Admitted)
+    ∙ ap (λ l. replicate n mark.Admitted ++ l) (reverse-append ms (kind_mark root) ∙ ap (λ l. l ++ reverse ms) (kind_reverse root))
+
+-- the entries that they stand for
+kind_marked : (opening : Entry) (kept root : Option NodeKind) (ms : List Mark) (h w : List Slip) → (is_some root ≡ true → kept ≡ None) → (kept ≡ None → has_kind_mark ms ≡ false)
+    → entries_by opening (option_or root kept) (kind_mark root ++ ms) h w ≡ kind_entry root ++ entries_by opening kept ms h w
+kind_marked opening kept None ms h w first none = refl
+kind_marked opening kept (Some k) ms h w first none = ap (λ l. Kind k ∷ l) (other_kind opening (Some k) kept ms (none (first refl)) h w)
+
+pub admitted_marks : (opening : Entry) (k : Option NodeKind) (ms : List Mark) (more h w : List Slip)
+    → entries_by opening k (replicate (length more) mark.Admitted ++ ms) (more ++ h) w ≡ map Admitted more ++ entries_by opening k ms h w
+admitted_marks opening k ms [] h w = refl
+admitted_marks opening k ms (s ∷ more) h w = ap (λ l. Admitted s ∷ l) (admitted_marks opening k ms more h w)
+
+pub admission_marks : (opening : Entry) (kept root : Option NodeKind) (ms : List Mark) (more h w : List Slip) → (is_some root ≡ true → kept ≡ None) → (kept ≡ None → has_kind_mark ms ≡ false)
+    → entries_by opening (option_or root kept) (replicate (length more) mark.Admitted ++ (kind_mark root ++ ms)) (more ++ h) w ≡ (map Admitted more ++ kind_entry root) ++ entries_by opening kept ms h w
+admission_marks opening kept root ms more h w first none =
+    admitted_marks opening (option_or root kept) (kind_mark root ++ ms) more h w
+    ∙ ap (λ l. map Admitted more ++ l) (kind_marked opening kept root ms h w first none)
+    ∙ sym (append_assoc (map Admitted more) (kind_entry root) (entries_by opening kept ms h w))
+
+-- no kind is kept then only where no mark is of it
+admitted_kind : (n : ℕ) (ms : List Mark) → has_kind_mark (replicate n mark.Admitted ++ ms) ≡ has_kind_mark ms
+admitted_kind zero ms = refl
+admitted_kind (suc n) ms = admitted_kind n ms
+
+pub admission_kind : (kept root : Option NodeKind) (ms : List Mark) (n : ℕ) → (kept ≡ None → has_kind_mark ms ≡ false)
+    → option_or root kept ≡ None → has_kind_mark (replicate n mark.Admitted ++ (kind_mark root ++ ms)) ≡ false
+admission_kind kept None ms n none e = admitted_kind n ms ∙ none e
+admission_kind kept (Some k) ms n none e = absurd (grind (arith, e))
+
+-- a block that is admitted, with all that follows
+pub admits : (es : List Entry) (cs : List Clash) (db after : Forks) (room left : Room) (kept : Option NodeKind) (shut : Bool) (first run : ℕ) (s : Slip) → IsKept (world_told (told es cs)) db room kept shut first run
+    → judge (world_told (told es cs)) s ≡ Takes → IsBlock s
+    → after.history ≡ (intake_from db.history room.waiting s).history → left.waiting ≡ purged after.history (intake_from db.history room.waiting s).waiting → HasLimits db room after left
+    → IsKept (world_told (told (added_by (world_told (told es cs)) s Takes ++ es) (world_by (world_told (told es cs)) s Takes).conflicts)) after left (kind_after kept db.history) shut first run
+admits es cs db after room left kept shut first run s k e block h r limits =
+    let w = world_told (told es cs) in
+    let d = intake_from db.history room.waiting s in
+    let same : intake w s ≡ d = rw (k.parts.history, k.parts.waiting) refl in
+    let brought : world_told (told (added_by w s Takes ++ es) (world_by w s Takes).conflicts) ≡ world_by w s Takes =
+    subst (λ v. world_told (told (added_by w s v ++ es) (world_by w s v).conflicts) ≡ world_by w s v) e (told_offered es cs s k.sound block) in
+    subst (λ (v : World). IsKept v after left (kind_after kept db.history) shut first run) (sym brought) (record {
+      parts = record {
+        history = ap (λ (i : Intake). i.history) same ∙ sym h;
+        waiting = ap (λ (i : Intake). purged i.history i.waiting) same ∙ ap (λ l. purged l d.waiting) (sym h) ∙ sym r;
+        wait_blocks = k.parts.wait_blocks ∙ sym limits.blocks;
+        wait_bytes = k.parts.wait_bytes ∙ sym limits.bytes;
+      };
+      kind = rw (k.kind, k.parts.history) refl;
+      closed = k.closed;
+      first_is = k.first_is;
+      run_is = k.run_is;
+      limit = k.limit ∙ sym limits.history;
+      sound = keeps_by w s k.sound block Takes e;
+    })
+
+-- the blocks that an admission brings
+pub brings : (h w : List Slip) (s : Slip) → (more : List Slip) × (more ++ h ≡ (intake_from h w s).history)
+brings h w s =
+    let grows = taking_grows (length w) (record { history = s ∷ h; waiting = w; dropped = [] }) in
+    (grows.0 ++ s ∷ [], append_assoc grows.0 (s ∷ []) h ∙ grows.1)

@@ -1,4 +1,6 @@
 pub mod JudgedFacts
 pub mod KeptFacts
+pub mod DoneFacts
+pub mod AdmissionFacts
 pub mod CountFacts
 pub mod TakingFacts

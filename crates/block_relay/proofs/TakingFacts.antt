@@ -1,6 +1,7 @@
 -- The waiting blocks as they are taken: what was dropped, as the history grows, and what may be taken next.
-use Rattle.std.proofs.Common.{arith, ◌≡◌, ◌≤◌, ◌+◌, List, [], ◌∷◌, ◌++◌, length, reverse, Option, Some, None, refl, sym, ap, ◌∙◌, IsSome, ℕ, false, is_some, filter, inl, inr, subst}
+use Rattle.std.proofs.Common.{arith, ◌≡◌, ◌≤◌, ◌+◌, List, [], ◌∷◌, ◌++◌, length, reverse, Option, Some, None, refl, sym, ap, ◌∙◌, IsSome, ℕ, false, true, is_some, filter, inl, inr, subst}
 use Rattle.std.specs.List.{AllByRecursion}
+use Rattle.std.specs.Option.{option_map}
 use Rattle.block_record.specs.declared.blocks.Block.{Block}
 use Rattle.block_record.specs.declared.blocks.Slip.{Slip}
 use Rattle.relay_model.specs.declared.answers.Conflict.{Conflict as Clash}
@@ -17,7 +18,7 @@ use Rattle.relay_model.proofs.Judged.{IsTaker, judged_takes}
 use Rattle.relay_model.proofs.Sound.{first_intake, new_parts, rises_above, starts, swap_ids}
 use Rattle.block_relay.proofs.JudgedFacts.{fits_child}
 use Rattle.relay_model.proofs.Intakes.{keeps_one, next_is}
-use Rattle.block_relay.specs.Taking.{AreAllSome, AreHeld, CanStart, CanTake, HasLimits, dropped_after, history_after}
+use Rattle.block_relay.specs.Taking.{AreAllSome, AreHeld, CanStart, CanTake, Dropping, HasLimits, dropped_after, history_after}
 use Rattle.block_relay.proofs.CountFacts.{counts_first, counts_one, next_counts}
 
 abbrev pub intake_by : List Slip → List Slip → List Clash → Intake
@@ -105,10 +106,10 @@ all_some_push [] o all some = (some, tt)
 all_some_push (x ∷ xs) o all some = (all.0, all_some_push xs o all.1 some)
 
 -- limits stay twice
-pub limits_twice : (a b c : Forks) (x y z : Room) → HasLimits a x b y → HasLimits b y c z → HasLimits a x c z
-limits_twice a b c x y z h k = record { history = k.history ∙ h.history; blocks = k.blocks ∙ h.blocks; bytes = k.bytes ∙ h.bytes }
+pub limits_twice : (a b c : Forks) (x y z : Room) (d e f : Dropping) → HasLimits a x d b y e → HasLimits b y e c z f → HasLimits a x d c z f
+limits_twice a b c x y z d e f h k = record { history = k.history ∙ h.history; blocks = k.blocks ∙ h.blocks; bytes = k.bytes ∙ h.bytes; conflicts = k.conflicts ∙ h.conflicts }
 
 -- the value of a block that is given is given
-pub kept_some : (o : Option (Arc Block)) → is_some o ≡ true → IsSome (option_map arc_value o)
-kept_some None e = absurd (grind (arith, e))
-kept_some (Some b) e = tt
+pub kept_some : {X : Type 0} → (f : X → Block) (o : Option X) → is_some o ≡ true → IsSome (option_map f o)
+kept_some f None e = absurd (grind (arith, e))
+kept_some f (Some b) e = refl

@@ -34,6 +34,11 @@ abbrev pub kind_entry : Option NodeKind → List Entry
 kind_entry None = []
 kind_entry (Some k) = Kind k ∷ []
 
+-- its mark
+abbrev pub kind_mark : Option NodeKind → List Mark
+kind_mark None = []
+kind_mark (Some k) = mark.Kind ∷ []
+
 -- an entry with the newest slip that is left, and the entries before it with the others
 abbrev pub with_newest : (Slip → Entry) → (List Slip → List Entry) → List Slip → List Entry
 with_newest entry before [] = before []

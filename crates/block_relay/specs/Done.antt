@@ -9,7 +9,7 @@ use Rattle.block_relay.specs.declared.answers.Offered.{Offered}
 use Rattle.block_relay.specs.declared.answers.OfferFault.{OfferFault}
 
 -- an offer was answered, and what is told of the relay then, as a verdict has it; nothing changed where there was no memory
-pub record IsDone (v: Verdict) (s : Slip) (old new : Told) (result : Result Offered OfferFault) : Type 0 where
+pub record IsDone (v : Verdict) (s : Slip) (old new : Told) (result : Result Offered OfferFault) : Type 0 where
   pub said : IsAnswer (answer_by (world_told old) s v) result
   pub entries : is_mem result ≡ false → new.entries ≡ added_by (world_told old) s v ++ old.entries
   pub conflicts : is_mem result ≡ false → new.conflicts ≡ (world_by (world_told old) s v).conflicts

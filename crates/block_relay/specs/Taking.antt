@@ -33,11 +33,12 @@ pub record AreHeld (db : Forks) (room : Room) : Type 0 where
   pub history : AreAllSome db.held
   pub waiting : AreKept room
 
--- the limits of the history and of the room stay
-pub record HasLimits (db : Forks) (room : Room) (db' : Forks) (room' : Room) : Type 0 where
+-- the limits of the history and of the room stay, and how many conflicts there are with those for which there is memory
+pub record HasLimits (db : Forks) (room : Room) (drops : Dropping) (db' : Forks) (room' : Room) (drops' : Dropping) : Type 0 where
   pub history : db'.limit ≡ db.limit
   pub blocks : room'.most_blocks ≡ room.most_blocks
   pub bytes : room'.most_bytes ≡ room.most_bytes
+  pub conflicts : length drops'.conflicts + drops'.spare ≡ length drops.conflicts + drops.spare
 
 -- the history after a block whose parent is held, by how it contradicts the history
 abbrev pub history_after : List Slip → Slip → Option Clash → List Slip

@@ -10,10 +10,10 @@ ghost use Rattle.chain_model.specs.Places.{steps_to};
 ghost use Rattle.fork_db.specs.Batches.{IsGiven, WasGiven, item_seen};
 ghost use Rattle.relay_look.specs.Answers.{FitsAt, HasBatchOf, IsLook, position_of};
 ghost use Rattle.relay_model.specs.Looks.{looked};
-ghost use Rattle.relay_model.specs.Chronicles.{Kind as KindEntry, Opened, added};
+ghost use Rattle.relay_model.specs.Chronicles.{Kind as KindEntry, Opened, added, kind_added};
 ghost use Rattle.relay_model.specs.Offers.{Clashes, Waits, conflict, judge as judge_in, judge_limit, kind_after, offered};
 ghost use Rattle.relay_model.specs.Soundness.{IsBlock, IsSound};
-ghost use Rattle.block_relay.specs.Chronicle.{closed_entries, greeted, limits_told, may_greet, world_told};
+ghost use Rattle.block_relay.specs.Chronicle.{closed_entries, greeted, kind_entry, kind_mark, limits_told, may_greet, world_told};
 ghost use Rattle.block_relay.specs.Answers.{IsAnswer, is_mem};
 ghost use Rattle.block_relay.specs.Done.{IsDone};
 ghost use Rattle.block_relay.specs.Judged.{verdict_of_judged};
@@ -249,6 +249,7 @@ impl Relay {
         ensures mem { is_mem result ≡ true → self.new ≡ self.old }
         ensures payloads { self.new.payloads ≡ self.old.payloads }
     {
+        let _ = self.len();
         let slip = slip_of(self.alloc, &block)?;
         match self.payloads {
             Payloads::Kept => self.take(slip, Some(block)),
@@ -268,6 +269,7 @@ impl Relay {
         ensures mem { is_mem result ≡ true → self.new ≡ self.old }
         ensures payloads { self.new.payloads ≡ self.old.payloads }
     {
+        let _ = self.len();
         self.take(slip, None)
     }
 
@@ -388,10 +390,7 @@ impl Relay {
         let root_kind = kind_of_root(self.alloc, from, &self.kind)?;
         admit(&mut self.db, &mut self.room, &mut drops, slip, block);
         let count = self.db.len() - from;
-        if let Some(kind) = root_kind {
-            self.kind = Some(kind);
-            self.marks.push_reserved(Mark::Kind);
-        }
+        keep_root_kind(&mut self.kind, &mut self.marks, root_kind);
         mark_admitted(&mut self.marks, count);
         let (mut noted, dropped) = drops.into_lists();
         let _ = self.conflicts.append(&mut noted);
@@ -467,18 +466,33 @@ fn reserve_admitted(
 
 /// The kind that a root brings where none is kept: that of nodes that tell none.
 fn kind_of_root(alloc: Global, len: u64, kept: &Option<Kind>) -> Result<Option<Kind>, AllocError>
-    ensures { (older : List SlipOf) → len ≡ length older
-        → IfOk result (λ k. option_or kept.now k ≡ kind_after kept.now older) }
+    ensures first { IfOk result (λ root. is_some root ≡ true → kept.now ≡ None) }
+    ensures added { (older : List SlipOf) → len ≡ length older
+        → IfOk result (λ root. kind_entry root ≡ kind_added kept.now older) }
+    ensures kind { (older : List SlipOf) → len ≡ length older
+        → IfOk result (λ root. option_or root kept.now ≡ kind_after kept.now older) }
 {
     if len != 0 || kept.is_some() {
         return Ok(None);
     }
-    match TypeName::new(alloc, b"-")? {
-        Some(block_type) => Ok(Some(Kind {
-            version: Version::V3,
-            block_type,
-        })),
-        None => Ok(None),
+    let block_type = TypeName::new(alloc, b"-")?.unwrap();
+    Ok(Some(Kind {
+        version: Version::V3,
+        block_type,
+    }))
+}
+
+/// Keeps the kind that a root brings.
+fn keep_root_kind(kept: &mut Option<Kind>, marks: &mut Vec<Mark>, root: Option<Kind>)
+    requires { vec_len marks.old < vec_capacity marks.old }
+    ensures kept { kept.new ≡ option_or root kept.old }
+    ensures items { marks.new.items ≡ marks.old.items ++ kind_mark root }
+    ensures len { vec_len marks.new ≤ vec_len marks.old + 1 }
+    ensures capacity { vec_capacity marks.new ≡ vec_capacity marks.old }
+{
+    if let Some(kind) = root {
+        *kept = Some(kind);
+        marks.push_reserved(Mark::Kind);
     }
 }
 

@@ -88,7 +88,7 @@ pub fn admit(
         (intake_from db.old.history room.old.waiting slip).waiting }
     ensures dropped { drops.new.conflicts
         ≡ (intake_from db.old.history room.old.waiting slip).dropped }
-    ensures limits { HasLimits db.old room.old db.new room.new }
+    ensures limits { HasLimits db.old room.old drops.old db.new room.new drops.new }
     ensures held { is_some block ≡ true → AreHeld db.old room.old → AreHeld db.new room.new }
 {
     let any = room.has_child(&slip.id);
@@ -104,7 +104,7 @@ fn follow(db: &mut ForkDb, room: &mut WaitRoom, drops: &mut Drops, any: bool)
     requires spare { CanTake (intake_of db.old room.old drops.old) drops.old.spare }
     ensures taken { intake_of db.new room.new drops.new
         ≡ take_in (length room.old.waiting) (intake_of db.old room.old drops.old) }
-    ensures limits { HasLimits db.old room.old db.new room.new }
+    ensures limits { HasLimits db.old room.old drops.old db.new room.new drops.new }
     ensures held { AreHeld db.old room.old → AreHeld db.new room.new }
 {
     if any {
@@ -119,7 +119,7 @@ pub fn take_waiting(db: &mut ForkDb, room: &mut WaitRoom, drops: &mut Drops)
     requires spare { CanTake (intake_of db.old room.old drops.old) drops.old.spare }
     ensures taken { intake_of db.new room.new drops.new
         ≡ take_in (length room.old.waiting) (intake_of db.old room.old drops.old) }
-    ensures limits { HasLimits db.old room.old db.new room.new }
+    ensures limits { HasLimits db.old room.old drops.old db.new room.new drops.new }
     ensures held { AreHeld db.old room.old → AreHeld db.new room.new }
 {
     for _ in 0..room.blocks() {
@@ -139,7 +139,7 @@ fn take_next(db: &mut ForkDb, room: &mut WaitRoom, drops: &mut Drops) -> bool
         (next_waiting db.old.history room.old.waiting) }
     ensures can { CanTake (intake_of db.new room.new drops.new) db.new.room }
     ensures spare { CanTake (intake_of db.new room.new drops.new) drops.new.spare }
-    ensures limits { HasLimits db.old room.old db.new room.new }
+    ensures limits { HasLimits db.old room.old drops.old db.new room.new drops.new }
     ensures held { AreHeld db.old room.old → AreHeld db.new room.new }
 {
     match room.take_next(&History(db)) {
@@ -165,6 +165,8 @@ fn place(db: &mut ForkDb, drops: &mut Drops, slip: Slip, block: Option<Arc<Block
         ≡ dropped_after drops.old.conflicts (clash db.old.history slip) }
     ensures room { db.old.room ≤ db.new.room + 1 }
     ensures spare { drops.old.spare ≤ drops.new.spare + 1 }
+    ensures conflicts { length drops.new.conflicts + drops.new.spare
+        ≡ length drops.old.conflicts + drops.old.spare }
     ensures limit { db.new.limit ≡ db.old.limit }
     ensures held { is_some block ≡ true → AreAllSome db.old.held → AreAllSome db.new.held }
 {

@@ -31,7 +31,3 @@ on_path_by newest id a last r e lt is =
     let x = place_slip newest id a e in
     let y = slip_there newest last lt in
     is x.0 y.0 x.1 y.1 ∙ ap (has_id (ancestry newest y.0.id)) x.2 ∙ ap (λ o. has_id (ancestry_of newest o) id) (sym y.1)
-
--- without a final tip its number is 0
-pub no_tip : (newest : List Slip) → final_tip newest ≡ None → 0 ≡ tip_num newest
-no_tip newest e = sym (ap num_of e)

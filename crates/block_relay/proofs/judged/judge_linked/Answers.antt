@@ -6,8 +6,8 @@ use Rattle.relay_model.specs.Offers.{judge_parent}
 use Rattle.block_relay.proofs.JudgedFacts.{above_root, late_root, root_first}
 use Rattle.block_relay.proofs.judged.judge_linked.Goals as goal
 
-pub returns-then-slip-slip : goal.returns-then-slip-slip
-returns-then-slip-slip c =
+pub returns-then-slip : goal.returns-then-slip
+returns-then-slip c =
     λ w parts. late_root w c.args.slip.now c.args.db.now.history parts.history (omega arith)
     (let root = root_first c.args.db.now.history c.slip.result.now c.slip.ensures in omega (arith, root))
 

@@ -35,4 +35,4 @@ pub returns-in-None-clause-held : goal.returns-in-None-clause-held
 returns-in-None-clause-held c =
     λ some all.
     let more = on_ok c.append.result _ (c.append.ensures.succeeds c.requires.room) c.append.ensures.appended in
-    subst AreAllSome (sym more.held) (all_some_push c.args.db.now.held _ all (kept_some c.args.block some))
+    subst AreAllSome (sym more.held) (all_some_push c.args.db.now.held _ all (kept_some _ c.args.block some))

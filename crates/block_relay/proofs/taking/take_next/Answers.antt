@@ -76,4 +76,5 @@ returns-in-Some-clause-limits c =
       history = c.place.ensures.limit;
       blocks = ap (λ (r : Room). r.most_blocks) c.take_next.ensures.room ∙ without_blocks c.args.room.now o;
       bytes = ap (λ (r : Room). r.most_bytes) c.take_next.ensures.room ∙ without_bytes c.args.room.now o;
+      conflicts = c.place.ensures.conflicts;
     }

@@ -22,6 +22,6 @@ loop-preserved c =
       taken = ap (take_in (n - (c.loop.counter + 1))) c.take_next.ensures.taken ∙ ap (λ k. take_in k d) (sym one) ∙ c.loop.invariant.taken;
       can = c.take_next.ensures.can;
       spare = c.take_next.ensures.spare;
-      limits = limits_twice _ _ _ _ _ _ c.loop.invariant.limits c.take_next.ensures.limits;
+      limits = limits_twice _ _ _ _ _ _ _ _ _ c.loop.invariant.limits c.take_next.ensures.limits;
       held = λ h. c.take_next.ensures.held (c.loop.invariant.held h);
     }

@@ -8,6 +8,6 @@ invariant-loop l = record {
   taken : take_in (length l.fn.room.waiting - l.counter) (intake_of l.db l.room l.drops) ≡ take_in (length l.fn.room.waiting) (intake_of l.fn.db l.fn.room l.fn.drops);
   can : CanTake (intake_of l.db l.room l.drops) l.db.room;
   spare : CanTake (intake_of l.db l.room l.drops) l.drops.spare;
-  limits : HasLimits l.fn.db l.fn.room l.db l.room;
+  limits : HasLimits l.fn.db l.fn.room l.fn.drops l.db l.room l.drops;
   held : AreHeld l.fn.db l.fn.room → AreHeld l.db l.room;
 }

@@ -15,4 +15,5 @@ invariant_of-self c =
           (closes (entries_by opening t.kind (reverse t.marks.items) t.db.history (reverse t.waited.items)) (reverse t.conflicts.items) t.db t.room t.kind t.closed t.first t.run c.self.invariant.0),
       λ (e : true ≡ false). absurd (grind arith),
       λ e. ap has_kind_mark pushed ∙ c.self.invariant.2 e,
+      c.self.invariant.3,
     )

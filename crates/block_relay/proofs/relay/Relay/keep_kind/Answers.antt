@@ -18,6 +18,7 @@ invariant_of-self-2 c =
       rw (c.in_ok-kept.ensures, ms, ← before) kept,
       λ _. omega (arith, c.in_ok-reserve.ensures.ok, c.push_reserved.ensures.len, c.push_reserved.ensures.capacity),
       λ e. absurd (grind (arith, e)),
+      c.self.invariant.3,
     )
 
 pub returns-clause-ok : goal.returns-clause-ok

@@ -1,0 +1,77 @@
+-- The entries and the conflicts that an admission leaves, as the relay keeps them.
+use Rattle.std.proofs.Common.{arith, ◌≡◌, ◌<◌, ◌≤◌, ◌+◌, ◌-◌, ◌++◌, ◌∷◌, ℕ, Bool, true, false, List, [], length, map, take, reverse, replicate, Option, None, is_some, refl, sym, ◌∙◌, ap, subst, cond, leb}
+use Rattle.std.specs.Option.{option_or}
+use Rattle.std.proofs.Math.Seq.{take-append_seam}
+use Rattle.std.proofs.lemmas.Bool.{le-leb}
+use Rattle.std.proofs.lemmas.List.{length-append, reverse-append}
+use Rattle.block_record.specs.declared.blocks.Slip.{Slip}
+use Rattle.block_record.specs.declared.blocks.Kind.{Kind as NodeKind}
+use Rattle.relay_model.specs.declared.answers.Conflict.{Conflict as Clash}
+use Rattle.relay_model.specs.Worlds.{World, descendants}
+use Rattle.relay_model.specs.Chronicles.{Entry, Admitted, added_by, kind_added}
+use Rattle.relay_model.specs.Offers.{Intake, Takes, intake, judge, judge_limit}
+use Rattle.fork_db.specs.Forks.{Forks}
+use Rattle.wait_room.specs.Rooms.{Room}
+use Rattle.block_relay.specs.declared.marks.Mark.{Mark}
+use Rattle.block_relay.specs.declared.marks.Mark.TheVariants as mark
+use Rattle.block_relay.specs.Chronicle.{IsKept, entries_by, has_kind_mark, kind_entry, kind_mark}
+use Rattle.block_relay.specs.Judged.{HasParts}
+use Rattle.block_relay.specs.Taking.{intake_from}
+use Rattle.block_relay.proofs.KeptFacts.{admission_marks, marks_reverse}
+
+-- a history with more room is the same to what is kept
+pub reserved : (w : World) (db after : Forks) (room : Room) (kept : Option NodeKind) (shut : Bool) (first run : ℕ) → IsKept w db room kept shut first run → after.history ≡ db.history → after.limit ≡ db.limit
+    → IsKept w after room kept shut first run
+reserved w db after room kept shut first run k h l = record {
+  parts = record { history = k.parts.history ∙ sym h; waiting = k.parts.waiting; wait_blocks = k.parts.wait_blocks; wait_bytes = k.parts.wait_bytes };
+  kind = k.kind;
+  closed = k.closed;
+  first_is = k.first_is;
+  run_is = k.run_is;
+  limit = k.limit ∙ sym l;
+  sound = k.sound;
+}
+
+-- a block that links is taken where the limit has room
+pub takes_limit : (w : World) (s : Slip) (db : Forks) (room : Room) → HasParts w db room → w.limits.history ≡ db.limit → length db.history + (1 + descendants room.waiting s.id) ≤ db.limit
+    → judge_limit w s ≡ Takes
+takes_limit w s db room parts limit le =
+    let n = ap length parts.history in
+    let d = ap (λ l. descendants l s.id) parts.waiting in
+    let fits : leb (length w.history + (1 + descendants w.waiting s.id)) w.limits.history ≡ true = le-leb _ _ (omega (arith, n, d, limit, le)) in
+    rw fits refl
+
+-- the blocks that an admission brings are entries of it
+added_takes : (w : World) (h room : List Slip) (kept root : Option NodeKind) (s : Slip) (more : List Slip) → w.history ≡ h → w.waiting ≡ room → w.kind ≡ kept
+    → more ++ h ≡ (intake_from h room s).history → kind_entry root ≡ kind_added kept h → map Admitted more ++ kind_entry root ≡ added_by w s Takes
+added_takes w h room kept root s more eh er ek brought entry =
+    let same : intake w s ≡ intake_from h room s = rw (eh, er) refl in
+    let after : (intake w s).history ≡ more ++ h = ap (λ (i : Intake). i.history) same ∙ sym brought in
+    let n : length (more ++ h) - length h ≡ length more = omega (arith, length-append more h) in
+    let taken : take (length (more ++ h) - length h) (more ++ h) ≡ more = ap (λ k. take k (more ++ h)) n ∙ take-append_seam more h in
+    sym (
+    ap (λ (l : List Slip). map Admitted (take (length l - length w.history) l) ++ kind_added w.kind w.history) after
+    ∙ ap (λ (l : List Slip). map Admitted (take (length (more ++ h) - length l) (more ++ h)) ++ kind_added w.kind l) eh
+    ∙ ap (λ (k : Option NodeKind). map Admitted (take (length (more ++ h) - length h) (more ++ h)) ++ kind_added k h) ek
+    ∙ ap (λ (l : List Slip). map Admitted l ++ kind_added kept h) taken
+    ∙ ap (λ (l : List Entry). map Admitted more ++ l) (sym entry)
+    )
+
+-- the entries after an admission
+pub entries_after : (opening : Entry) (w : World) (h newest room waited : List Slip) (kept root now : Option NodeKind) (s : Slip) (more : List Slip) (ms marks : List Mark) (n : ℕ) → w.history ≡ h → w.waiting ≡ room → w.kind ≡ kept
+    → more ++ h ≡ (intake_from h room s).history → newest ≡ (intake_from h room s).history → length newest ≡ n + length h → now ≡ option_or root kept
+    → marks ≡ (ms ++ kind_mark root) ++ replicate n mark.Admitted → kind_entry root ≡ kind_added kept h → (is_some root ≡ true → kept ≡ None) → (kept ≡ None → has_kind_mark (reverse ms) ≡ false)
+    → entries_by opening now (reverse marks) newest waited ≡ added_by w s Takes ++ entries_by opening kept (reverse ms) h waited
+entries_after opening w h newest room waited kept root now s more ms marks n eh er ek brought is len en em entry first none =
+    let whole : newest ≡ more ++ h = is ∙ sym brought in
+    let count : n ≡ length more = omega (arith, len, ap length whole, length-append more h) in
+    let turned : reverse marks ≡ replicate (length more) mark.Admitted ++ (kind_mark root ++ reverse ms) = ap reverse em ∙ marks_reverse ms root n ∙ ap (λ k. replicate k mark.Admitted ++ (kind_mark root ++ reverse ms)) count in
+    ap (λ (k : Option NodeKind). entries_by opening k (reverse marks) newest waited) en
+    ∙ ap (λ (l : List Mark). entries_by opening (option_or root kept) l newest waited) turned
+    ∙ ap (λ (l : List Slip). entries_by opening (option_or root kept) (replicate (length more) mark.Admitted ++ (kind_mark root ++ reverse ms)) l waited) whole
+    ∙ admission_marks opening kept root (reverse ms) more h waited first none
+    ∙ ap (λ (l : List Entry). l ++ entries_by opening kept (reverse ms) h waited) (added_takes w h room kept root s more eh er ek brought entry)
+
+-- the conflicts after it
+pub conflicts_after : (old noted all : List Clash) (d : List Clash) → all ≡ old ++ noted → reverse noted ≡ d → reverse all ≡ d ++ reverse old
+conflicts_after old noted all d e f = ap reverse e ∙ reverse-append old noted ∙ ap (λ l. l ++ reverse old) f
