@@ -11,11 +11,11 @@ use Rattle.block_record.specs.Records.{record_text}
 use Rattle.block_record.specs.Slips.{slip}
 use Rattle.dbin_file.specs.declared.faults.DbinFault.{DbinFault}
 use Rattle.dbin_file.specs.Contents.{contents}
-use Rattle.one_block.specs.OneFiles.{record_place}
+use Rattle.one_block.specs.Containers.{record_place, IsReadable, IsRecordOf, IsNoRecord}
 use Rattle.shelf_check.specs.declared.faults.FileFault.{FileFault}
 use Rattle.shelf_check.specs.declared.faults.FileFault.TheVariants.{Bad, OtherType, Mem}
 use Rattle.shelf_check.specs.declared.forms.Form.{Form}
-use Rattle.shelf_check.specs.Containers.{IsReadable, IsRecordOf, IsKept, HasOtherType, IsNoRecord}
+use Rattle.shelf_check.specs.Containers.{IsKept, HasOtherType}
 use Rattle.shelf_check.specs.Bundles.{is_next, tip_after, AreNext, place_after, IsNotNext, IsBundle, IsBadMessage, IsBadEnd, BundleRefused}
 use Rattle.shelf_check.specs.Singles.{IsSingleOf, IsBadAfterHead, FormedRefused}
 use Rattle.shelf_check.specs.Forms.{own_name}

@@ -25,7 +25,8 @@ use Rattle.shelf_check.specs.declared.faults.LoadFault.TheVariants.{Store, KindC
 use Rattle.shelf_check.specs.declared.forms.Folder.{Folder}
 use Rattle.shelf_check.specs.declared.forms.Folder.TheVariants.{One, Forked}
 use Rattle.shelf_check.specs.declared.forms.Form.{Form}
-use Rattle.shelf_check.specs.Containers.{IsReadable, AreRecords}
+use Rattle.one_block.specs.Containers.{IsReadable}
+use Rattle.shelf_check.specs.Containers.{AreRecords}
 use Rattle.shelf_check.specs.Bundles.{tip_after, BundleRefused}
 use Rattle.shelf_check.specs.Forms.{form_of}
 use Rattle.shelf_check.specs.Singles.{FormedRefused, AnswersBy}
