@@ -9,7 +9,7 @@ use Rattle.one_block.specs.Numerals.{padded, filled_number}
 use Rattle.one_block.specs.Files.{whole_text, after_slash, without_ending, without_front, bare_text, merged_text, base_of, merged_base_of}
 use Rattle.one_block.specs.Laws.{LacksSlash, IsInFolder, FilesAreRead}
 use Rattle.one_block.proofs.NumeralFacts.{filled_number-padded, padded-filled_number}
-use Rattle.one_block.proofs.MomentFacts.{some_is}
+use Rattle.one_block.proofs.OptionFacts.{some_is}
 
 after_slash-append : (folder rest : List ℕ) → LacksSlash folder → after_slash (folder ++ 47 ∷ rest) ≡ Some rest
 after_slash-append [] rest lacks = refl

@@ -1,45 +1,18 @@
--- What a text says as a container, and what the file of a single block holds.
+-- What the first message of a file tells of the file.
 use Rattle.std.proofs.Common.{◌≡◌, ℕ, ◌+◌, Bool, false, ◌||◌, nat_lt, List, [], ◌∷◌, length, Option, None, Some, Result, Ok, Err, inl, inr, refl, sym, ap, subst, ◌∙◌, arith}
 use Rattle.std.specs.Prelude.{slice_get}
-use Rattle.std.specs.Option.{is_some}
-use Rattle.std.proofs.lemmas.Bool.{or_parts, ltb-false, lt-ltb}
-use Rattle.std.proofs.lemmas.List.{nil_from_length}
+use Rattle.std.specs.Option.{is_some, unwrap_or}
+use Rattle.std.proofs.lemmas.Bool.{or_parts}
 use Rattle.block_record.specs.declared.blocks.Slip.{Slip}
-use Rattle.dbin_file.specs.Header.{header_fault, header_size}
 use Rattle.dbin_file.specs.Contents.{contents}
-use Rattle.dbin_file.specs.Reader.{AreFurther}
 use Rattle.one_block.specs.declared.held.HeldFault.{HeldFault}
 use Rattle.one_block.specs.declared.held.HeldFault.TheVariants.{Bad, Mem}
-use Rattle.one_block.specs.declared.held.FileContents.{FileContents}
-use Rattle.one_block.specs.OneFiles.{container_fault, record_place, HoldsSlip, IsBadAt, HeldRefused, HeldAnswers}
-use Rattle.one_block.specs.HeldSteps.{HasContents, IsOnly, OnlyRefused, OnlyAnswers}
-use Rattle.one_block.proofs.MomentFacts.{some_is}
-
--- no text has no messages
-pub no_messages : (contents []).messages ≡ []
-unfolding header_fault header_size
-no_messages = refl
-
--- so all messages of a text are further ones
-pub all_messages : (text : List ℕ) (more : List (List ℕ)) → AreFurther [] text more → more ≡ (contents text).messages
-all_messages text more further = let none = no_messages in sym (rw none at further)
-
--- ---- the file of a single block
-
--- more than one message, seen from the first
-more_than_one : (m : List ℕ) (more : List (List ℕ)) → nat_lt 1 (length (m ∷ more)) ≡ nat_lt 0 (length more)
-more_than_one m more = by_list more
-  where
-    by_list : (l : List (List ℕ)) → nat_lt 1 (length (m ∷ l)) ≡ nat_lt 0 (length l)
-    by_list [] = refl
-    by_list (x ∷ l) = lt-ltb 1 (length (m ∷ x ∷ l)) (omega arith) ∙ sym (lt-ltb 0 (length (x ∷ l)) (omega arith))
-
-none_of : {A : Type 0} (o : Option A) → is_some o ≡ false → o ≡ None
-none_of None e = refl
-none_of (Some x) e = absurd (cc e)
-
-empty_of : (l : List (List ℕ)) → nat_lt 0 (length l) ≡ false → l ≡ []
-empty_of l e = nil_from_length l (let none = ltb-false 0 (length l) e in omega arith)
+use Rattle.one_block.specs.declared.containers.FileContents.{FileContents}
+use Rattle.one_block.specs.Containers.{container_fault, record_place, HasContents}
+use Rattle.one_block.specs.OneFiles.{HoldsSlip, IsBadAt, HeldRefused, HeldAnswers}
+use Rattle.one_block.specs.HeldSteps.{IsOnly, OnlyRefused, OnlyAnswers}
+use Rattle.one_block.proofs.OptionFacts.{some_is, none_of}
+use Rattle.one_block.proofs.ContainerFacts.{more_than_one, empty_of}
 
 module _ (name by text : List ℕ) (m : List ℕ) (more : List (List ℕ)) (messages : (contents text).messages ≡ m ∷ more) where
   abbrev follows : Bool
@@ -51,7 +24,8 @@ module _ (name by text : List ℕ) (m : List ℕ) (more : List (List ℕ)) (mess
       record {
         block = only.block;
         slip_is = only.slip_is;
-        only = messages ∙ ap (λ (l : List (List ℕ)). m ∷ l) (empty_of more ends.0) ∙ ap (λ (x : List ℕ). x ∷ []) only.record_is;
+        only = messages ∙ ap (λ (l : List (List ℕ)). m ∷ l) (empty_of more ends.0) ∙ ap (λ (x : List ℕ). x ∷ []) only.record_is.text;
+        readable = only.record_is.readable;
         whole = none_of (container_fault text) ends.1;
         named = only.named;
       }
@@ -61,7 +35,7 @@ module _ (name by text : List ℕ) (m : List ℕ) (more : List (List ℕ)) (mess
   held_refused (Bad at) refused = subst (λ (l : List (List ℕ)). IsBadAt name by text l at) (sym messages) (by_cause refused)
     where
       by_cause : OnlyRefused name by m (record_place text) follows (Bad at) → IsBadAt name by text (m ∷ more) at
-      by_cause (inl bad) = inl (record { byte = bad.byte; fault = bad.fault; place = bad.at_is })
+      by_cause (inl bad) = inl bad
       by_cause (inr (inl misnamed)) = inr (inl misnamed)
       by_cause (inr (inr f)) = inr (inr (record { block = f.block; record_is = f.record_is; named = f.named; follows = f.follows; place = f.at_is }))
 
@@ -70,16 +44,16 @@ module _ (name by text : List ℕ) (m : List ℕ) (more : List (List ℕ)) (mess
   held_answers (Err e) answers = held_refused e answers
 
 -- what is answered of the first message is what is answered of the file
-pub held_from : (name by text first : List ℕ) (file : FileContents) (goes_on : Bool) (result : Result Slip HeldFault) → HasContents text file → slice_get file.messages.items 0 ≡ Some first
-    → goes_on ≡ (nat_lt 1 (length file.messages.items) || is_some file.fault) → OnlyAnswers name by first (11 + file.type_len) goes_on result → HeldAnswers name by text result
-held_from name by text first file goes_on result has got is answers = by_list (contents text).messages refl
+pub held_from : (name by text first : List ℕ) (file : FileContents) (at : ℕ) (goes_on : Bool) (result : Result Slip HeldFault) → HasContents text file → slice_get file.messages.items 0 ≡ Some first
+    → goes_on ≡ (nat_lt 1 (length file.messages.items) || is_some file.fault) → at ≡ 11 + length (unwrap_or file.block_type []) → OnlyAnswers name by first at goes_on result → HeldAnswers name by text result
+held_from name by text first file at goes_on result has got is at_is answers = by_list (contents text).messages refl
   where
     by_list : (ms : List (List ℕ)) → (contents text).messages ≡ ms → HeldAnswers name by text result
     by_list [] e = absurd (let none : slice_get file.messages.items 0 ≡ None = ap (λ (l : List (List ℕ)). slice_get l 0) (has.messages ∙ e) in let clash = sym got ∙ none in cc clash)
     by_list (m ∷ more) e =
         let first_is : Some m ≡ Some first = sym (ap (λ (l : List (List ℕ)). slice_get l 0) (has.messages ∙ e)) ∙ got in
         let same : first ≡ m = sym (some_is m first first_is) in
-        let place : 11 + file.type_len ≡ record_place text = ap (λ n. 11 + n) has.type_len in
+        let place : at ≡ record_place text = at_is ∙ ap (λ (t : Option (List ℕ)). 11 + length (unwrap_or t [])) has.block_type in
         let goes : goes_on ≡ (nat_lt 0 (length more) || is_some (container_fault text)) =
         is ∙ ap (λ (l : List (List ℕ)). nat_lt 1 (length l) || is_some file.fault) (has.messages ∙ e) ∙ ap (λ t. t || is_some file.fault) (more_than_one m more) ∙ ap (λ o. nat_lt 0 (length more) || is_some o) has.fault in
         held_answers name by text m more e result (rw (← same, ← place, ← goes) answers)

@@ -13,6 +13,7 @@ use Rattle.one_block.specs.Moments.{is_clock, clock_of, clock_tenths, is_moment,
 use Rattle.one_block.specs.Numerals.{padded, filled_number}
 use Rattle.one_block.specs.Reading.{digits_at, byte_at, day_at, clock_at, moment_named, tenths_named, ◌>>=◌}
 use Rattle.one_block.proofs.CalendarFacts.{IsGood, is_day-good, good-is_day, nth, number_nth, day_number-day_after, day_after-day_number}
+use Rattle.one_block.proofs.OptionFacts.{some_is}
 use Rattle.one_block.proofs.NumeralFacts.{length-padded, filled_number-padded, padded-filled_number}
 
 -- ---- one field
@@ -28,9 +29,6 @@ byte_again : (b : ℕ) (rest : List ℕ) → byte_at b (b ∷ rest) ≡ Some res
 byte_again b rest = let same = eq-eqb b b refl in rw same refl
 
 -- what a field took from the front, which has this text, and what it left
-pub some_is : {A : Type 0} (x y : A) → (let a : Option A = Some x in a) ≡ Some y → x ≡ y
-some_is x y e = cc e
-
 digits_take : (width : ℕ) (text : List ℕ) (x : ℕ × List ℕ) → digits_at width text ≡ Some x → text ≡ padded width x.0 ++ x.1
 digits_take width text x e = enough (nat_lt (length text) width) refl e
   where

@@ -25,7 +25,8 @@ use Rattle.one_block.specs.Names.{id_end, name_words, name_text, parts_of, is_id
 use Rattle.one_block.specs.Reading.{tenths_named, ◌>>=◌}
 use Rattle.one_block.specs.Laws.{NamesAreRead}
 use Rattle.one_block.proofs.NumeralFacts.{filled_number-padded, padded-filled_number}
-use Rattle.one_block.proofs.MomentFacts.{tenths_named-moment_text, moment_text-tenths_named, small_parts, step_is, step_took, some_is}
+use Rattle.one_block.proofs.MomentFacts.{tenths_named-moment_text, moment_text-tenths_named, small_parts, step_is, step_took}
+use Rattle.one_block.proofs.OptionFacts.{some_is}
 
 -- ---- words without a dash
 

@@ -6,6 +6,7 @@ pub mod Reading
 pub mod Seen
 pub mod Files
 pub mod Laws
+pub mod Containers
 pub mod OneFiles
 pub mod HeldSteps
 pub mod StoreFaults

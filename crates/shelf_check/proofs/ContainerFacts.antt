@@ -5,16 +5,10 @@ use Rattle.std.proofs.lemmas.Bool.{lt-ltb}
 use Rattle.std.proofs.lemmas.Slice.Eq.{bytes_eq-Decides}
 use Rattle.std.specs.Str.{bytes_eq}
 use Rattle.dbin_file.specs.Contents.{told}
-use Rattle.one_block.specs.OneFiles.{fault_place}
-use Rattle.block_record.specs.declared.blocks.Block.{Block}
-use Rattle.block_record.specs.declared.faults.RecordFault.{RecordFault}
-use Rattle.block_record.specs.declared.faults.RecordFault.TheVariants.{Mem as RecordMem}
-use Rattle.block_record.specs.Reading.{UnlessMem}
-use Rattle.block_record.specs.Records.{record_text, IsRecordable}
-use Rattle.std.specs.Prelude.{Result, Ok, Err}
-use Rattle.shelf_check.specs.declared.containers.FileContents.{FileContents}
-use Rattle.shelf_check.specs.Containers.{IsRecordOf, IsKept, HasHead, IsBadHead, HasOtherType}
-use Rattle.shelf_check.specs.Steps.{HasContents, IsOtherThan}
+use Rattle.one_block.specs.Containers.{fault_place, IsRecordOf, HasContents}
+use Rattle.one_block.specs.declared.containers.FileContents.{FileContents}
+use Rattle.shelf_check.specs.Containers.{IsKept, HasHead, IsBadHead, HasOtherType}
+use Rattle.shelf_check.specs.Steps.{IsOtherThan}
 
 -- the header was read
 pub has_head : (text : List ℕ) (kept : Option (List ℕ)) (file : FileContents) (block_type : List ℕ) → HasContents text file → file.block_type ≡ Some block_type → IsKept kept block_type → HasHead text kept block_type
@@ -49,13 +43,3 @@ pub not_whole : (n : ℕ) (o : Bool) → (nat_lt 0 n && not o) ≡ false → IsT
 not_whole zero o e = refl
 not_whole (suc n) true e = or_true (suc n == 0)
 not_whole (suc n) false e = absurd (let t = lt-ltb 0 (suc n) (omega arith) in let clash = sym (rw t at e) in cc clash)
-
--- a record that was decoded is that of no other block
-pub decoded : (bytes : List ℕ) (b : Block) → bytes ≡ record_text b → IsRecordable b → ((other : Block) → IsRecordable other → bytes ≡ record_text other → UnlessMem (Ok b) ((let r : Result Block RecordFault = Ok b in r) ≡ Ok other)) → IsRecordOf bytes b
-decoded bytes b text recordable back = record { text = text; readable = record { recordable = recordable; only = only_one } }
-  where
-    not_mem : (let r : Result Block RecordFault = Ok b in r) ≡ Err RecordMem → ⊥
-    not_mem e = cc e
-
-    only_one : (other : Block) → IsRecordable other → record_text b ≡ record_text other → other ≡ b
-    only_one other r same = let e = back other r (text ∙ same) not_mem in cc e

@@ -1,26 +1,27 @@
 -- A good file is not refused.
-use Rattle.std.proofs.Common.{arith, ◌≡◌, ◌<◌, ◌==◌, ◌||◌, ◌⊎◌, ℕ, Bool, true, false, IsTrue, List, [], ◌∷◌, ◌++◌, length, map, reverse, Option, Some, None, inl, inr, refl, sym, ap, subst, ◌∙◌, append_assoc}
+use Rattle.std.proofs.Common.{arith, ◌≡◌, ◌<◌, ◌==◌, ◌||◌, ◌⊎◌, ℕ, Bool, true, false, IsTrue, List, [], ◌∷◌, ◌++◌, length, map, reverse, Option, Some, None, inl, inr, refl, sym, ap, subst, ◌∙◌}
 use Rattle.std.specs.List.{AllByRecursion}
 use Rattle.std.specs.Option.{is_some}
 use Rattle.std.proofs.lemmas.Bool.{ltb-true}
 use Rattle.std.proofs.lemmas.Bool.Decides.{Decides-eqb}
-use Rattle.std.proofs.lemmas.List.{reverse-append, reverse-reverse}
+use Rattle.std.proofs.lemmas.List.{reverse-append}
 use Rattle.block_record.specs.declared.blocks.Block.{Block}
 use Rattle.block_record.specs.declared.blocks.BlockRef.{BlockRef}
 use Rattle.block_record.specs.Records.{record_text}
 use Rattle.block_record.specs.Slips.{slip}
 use Rattle.dbin_file.specs.declared.faults.DbinFault.{DbinFault}
 use Rattle.dbin_file.specs.Contents.{contents}
-use Rattle.one_block.specs.OneFiles.{record_place}
+use Rattle.one_block.specs.Containers.{record_place, IsReadable, IsRecordOf, IsNoRecord}
 use Rattle.shelf_check.specs.declared.faults.FileFault.{FileFault}
 use Rattle.shelf_check.specs.declared.faults.FileFault.TheVariants.{Bad, OtherType, Mem}
 use Rattle.shelf_check.specs.declared.forms.Form.{Form}
-use Rattle.shelf_check.specs.Containers.{IsReadable, IsRecordOf, IsKept, HasOtherType, IsNoRecord}
+use Rattle.shelf_check.specs.Containers.{IsKept, HasOtherType}
 use Rattle.shelf_check.specs.Bundles.{is_next, tip_after, AreNext, place_after, IsNotNext, IsBundle, IsBadMessage, IsBadEnd, BundleRefused}
 use Rattle.shelf_check.specs.Singles.{IsSingleOf, IsBadAfterHead, FormedRefused}
 use Rattle.shelf_check.specs.Forms.{own_name}
 use Rattle.shelf_check.specs.Laws.{GoodFilesAreTaken}
 use Rattle.shelf_check.proofs.LinkFacts.{length_records}
+use Rattle.shelf_check.proofs.ListFacts.{turned}
 
 -- two blocks of one record are one
 same_block : (m : List ℕ) (a b : Block) → IsRecordOf m a → IsRecordOf m b → a ≡ b
@@ -61,13 +62,6 @@ begins (d ∷ ds) (r ∷ rs) m more e ad ar =
 next_of : (base : ℕ) (before : Option BlockRef) (xs : List Block) (b : Block) (older : List Block) → AreNext base before (xs ++ b ∷ older) → IsTrue (is_next base (tip_after before older) b)
 next_of base before [] b older n = n.0
 next_of base before (x ∷ xs) b older n = next_of base before xs b older n.1
-
-turned : (blocks done : List Block) (b : Block) (rest : List Block) → reverse blocks ≡ reverse done ++ b ∷ rest → blocks ≡ reverse rest ++ b ∷ done
-turned blocks done b rest e =
-    sym (reverse-reverse blocks) ∙ ap reverse e ∙ reverse-append (reverse done) (b ∷ rest)
-    ∙ ap (λ (l : List Block). reverse (b ∷ rest) ++ l) (reverse-reverse done)
-    ∙ ap (λ (l : List Block). l ++ done) (reverse-append (b ∷ []) rest)
-    ∙ append_assoc (reverse rest) (b ∷ []) done
 
 -- a file of the kept type has no other type
 no_other : (text : List ℕ) (kept : Option (List ℕ)) (block_type held offered : List ℕ) → (contents text).block_type ≡ Some block_type → IsKept kept block_type → HasOtherType text kept held offered → ⊥
@@ -115,7 +109,7 @@ module _ (base : ℕ) (text : List ℕ) (kept : Option (List ℕ)) (before : Opt
       by_test true never e = never refl
       by_test false never e = cc e
 
-  taken_bundle : (fault : FileFault) → BundleRefused base text kept before fault → fault ≡ Mem
+  pub taken_bundle : (fault : FileFault) → BundleRefused base text kept before fault → fault ≡ Mem
   taken_bundle (Bad at) (inl head) = absurd (let clash = sym good.holds.typed ∙ head.untyped in cc clash)
   taken_bundle (Bad at) (inr body) = absurd (by_body body.body)
     where
@@ -134,7 +128,7 @@ module _ (form : Form) (name text : List ℕ) (kept : Option (List ℕ)) (block_
   no_bad_after at (inr (inl n)) = n.other (good.named ∙ ap (λ (b : Block). own_name form (slip b)) (same_block (record_text block) block n.block own_record n.record_is))
   no_bad_after at (inr (inr n)) = let clash : false ≡ true = ap (λ (f : Option DbinFault). is_some f) (sym good.holds.whole) ∙ n.follows in cc clash
 
-  taken_single : (fault : FileFault) → FormedRefused form name text kept fault → fault ≡ Mem
+  pub taken_single : (fault : FileFault) → FormedRefused form name text kept fault → fault ≡ Mem
   taken_single (Bad at) (inl head) = absurd (let clash = sym good.holds.typed ∙ head.untyped in cc clash)
   taken_single (Bad at) (inr bad) = absurd (let P : List (List ℕ) → Type 0 = λ ms. IsBadAfterHead form name text ms at in no_bad_after at (subst P good.holds.records.texts bad.body))
   taken_single (OtherType held offered) o = absurd (no_other text kept block_type held offered good.holds.typed good.same o)

@@ -7,3 +7,5 @@ mod FolderFacts
 mod MergedFacts
 mod ShelfFacts
 mod LawFacts
+mod SortedFacts
+mod WholeFacts

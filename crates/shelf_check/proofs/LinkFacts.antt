@@ -7,13 +7,13 @@ use Rattle.block_record.specs.declared.blocks.Block.{Block}
 use Rattle.block_record.specs.declared.blocks.BlockRef.{BlockRef}
 use Rattle.block_record.specs.Records.{record_text}
 use Rattle.dbin_file.specs.Contents.{contents, told}
-use Rattle.one_block.specs.OneFiles.{container_fault, fault_place, record_place}
-use Rattle.shelf_check.specs.declared.containers.FileContents.{FileContents}
+use Rattle.one_block.specs.Containers.{container_fault, fault_place, record_place, IsNoRecord, HasContents}
+use Rattle.one_block.specs.declared.containers.FileContents.{FileContents}
 use Rattle.shelf_check.specs.declared.faults.FileFault.{FileFault}
 use Rattle.shelf_check.specs.declared.faults.FileFault.TheVariants.{Bad, OtherType, Mem}
-use Rattle.shelf_check.specs.Containers.{AreRecords, HasHead, IsKept, IsNoRecord}
+use Rattle.shelf_check.specs.Containers.{AreRecords, HasHead, IsKept}
 use Rattle.shelf_check.specs.Bundles.{is_next, tip_after, AreNext, place_after, IsNotNext, IsBadMessage, IsBadEnd, IsBundleRead, BundleRefused}
-use Rattle.shelf_check.specs.Steps.{HasContents, HeadRefused, IsNextRecord, NextRefused, AreLinked, LinkRefused, IsBadAfter, WholeRefused}
+use Rattle.shelf_check.specs.Steps.{HeadRefused, IsNextRecord, NextRefused, AreLinked, LinkRefused, IsBadAfter, WholeRefused}
 use Rattle.shelf_check.proofs.ListFacts.{taken_more, cut_at}
 use Rattle.shelf_check.proofs.ContainerFacts.{has_head, bad_head, other_type, none_of, not_whole}
 

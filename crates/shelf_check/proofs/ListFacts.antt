@@ -1,6 +1,6 @@
 -- Lists that are read one after another, and told with the last one first.
-use Rattle.std.proofs.Common.{◌≡◌, ◌<◌, ◌+◌, ℕ, suc, List, [], ◌∷◌, ◌++◌, length, map, reverse, take, drop, get_or, sym, ap, ◌∙◌}
-use Rattle.std.proofs.lemmas.List.{take_more, take-append-drop, reverse-append, map-append}
+use Rattle.std.proofs.Common.{◌≡◌, ◌<◌, ◌+◌, ℕ, suc, List, [], ◌∷◌, ◌++◌, length, map, reverse, take, drop, get_or, refl, sym, ap, ◌∙◌, append_assoc}
+use Rattle.std.proofs.lemmas.List.{take_more, take-append-drop, reverse-append, reverse-reverse, map-append}
 use Rattle.std.proofs.Math.Seq.{drop-cons}
 
 -- one more
@@ -17,3 +17,54 @@ pub cut_at : {A : Type 0} (ys front : List A) (i : ℕ) (y : A) → i < length y
 cut_at {A} ys front i y within item read =
     sym (take-append-drop i ys) ∙ ap (λ (zs : List A). zs ++ drop i ys) read
     ∙ ap (λ (zs : List A). front ++ zs) (drop-cons ys i y within ∙ ap (λ (z : A). z ∷ drop (suc i) ys) (sym item))
+
+pub first_same : {A : Type 0} (x y : A) (xs ys : List A) → (let l : List A = x ∷ xs in l) ≡ y ∷ ys → x ≡ y
+first_same x y xs ys e = cc e
+
+pub rest_same : {A : Type 0} (x y : A) (xs ys : List A) → (let l : List A = x ∷ xs in l) ≡ y ∷ ys → xs ≡ ys
+rest_same x y xs ys e = cc e
+
+-- ---- turned over
+
+map-reverse : {A B : Type 0} (f : A → B) (xs : List A) → map f (reverse xs) ≡ reverse (map f xs)
+map-reverse f [] = refl
+map-reverse {A} {B} f (x ∷ xs) =
+    map_reverse_more f x xs ∙ ap (λ (zs : List B). zs ++ f x ∷ []) (map-reverse f xs) ∙ sym (reverse-append (f x ∷ []) (map f xs))
+
+-- what begins with a list, where the last one stands first, ends with it
+pub turned : {A : Type 0} (xs done : List A) (x : A) (rest : List A) → reverse xs ≡ reverse done ++ x ∷ rest → xs ≡ reverse rest ++ x ∷ done
+turned {A} xs done x rest e =
+    sym (reverse-reverse xs) ∙ ap reverse e ∙ reverse-append (reverse done) (x ∷ rest)
+    ∙ ap (λ (l : List A). reverse (x ∷ rest) ++ l) (reverse-reverse done)
+    ∙ ap (λ (l : List A). l ++ done) (reverse-append (x ∷ []) rest)
+    ∙ append_assoc (reverse rest) (x ∷ []) done
+
+-- lists whose values are the same in one order have the same in the other
+pub map_turned : {A B : Type 0} (f : A → B) (xs ys : List A) → map f (reverse xs) ≡ map f (reverse ys) → map f xs ≡ map f ys
+map_turned f xs ys e = sym (reverse-reverse (map f xs)) ∙ ap reverse (sym (map-reverse f xs) ∙ e ∙ map-reverse f ys) ∙ reverse-reverse (map f ys)
+
+-- an element of this value, and before it those of the values of a list
+pub record Split {A B : Type 0} (f : A → B) (xs : List A) (y : B) (ys : List A) : Type 0 where
+  pub newer : List A
+  pub x : A
+  pub older : List A
+  pub whole : xs ≡ newer ++ x ∷ older
+  pub item : f x ≡ y
+  pub same : map f older ≡ map f ys
+
+split_after : {A B : Type 0} (f : A → B) (xs : List A) (front : List B) (y : B) (ys : List A) → map f xs ≡ front ++ y ∷ map f ys → Split f xs y ys
+split_after f [] [] y ys e = absurd (cc e)
+split_after f [] (z ∷ front) y ys e = absurd (cc e)
+split_after {A} {B} f (x ∷ xs) [] y ys e =
+    let item : f x ≡ y = cc e in
+    let same : map f xs ≡ map f ys = cc e in
+    record { newer = []; x = x; older = xs; whole = refl; item = item; same = same }
+split_after {A} {B} f (x ∷ xs) (z ∷ front) y ys e =
+    let tail : map f xs ≡ front ++ y ∷ map f ys = cc e in
+    let s = split_after f xs front y ys tail in
+    record { newer = x ∷ s.newer; x = s.x; older = s.older; whole = ap (λ (l : List A). x ∷ l) s.whole; item = s.item; same = s.same }
+
+pub split_at : {A B : Type 0} (f : A → B) (xs ys : List A) (y : B) (more : List B) → map f (reverse xs) ≡ map f (reverse ys) ++ y ∷ more → Split f xs y ys
+split_at {A} {B} f xs ys y more e =
+    split_after f xs (reverse more) y ys
+    (turned (map f xs) (map f ys) y more (sym (map-reverse f xs) ∙ e ∙ ap (λ (l : List B). l ++ y ∷ more) (map-reverse f ys)))

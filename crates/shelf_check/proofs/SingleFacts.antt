@@ -2,36 +2,19 @@
 use Rattle.std.proofs.Common.{arith, ◌≡◌, ◌+◌, ◌||◌, inl, inr, ℕ, Bool, false, nat_lt, List, [], ◌∷◌, length, Option, Some, None, Result, Ok, Err, refl, sym, ap, subst, ◌∙◌}
 use Rattle.std.specs.Prelude.{slice_get}
 use Rattle.std.specs.Option.{is_some, option_map, unwrap_or}
-use Rattle.std.proofs.lemmas.Bool.{or_parts, ltb-false, lt-ltb}
-use Rattle.std.proofs.lemmas.List.{nil_from_length}
+use Rattle.std.proofs.lemmas.Bool.{or_parts}
 use Rattle.dbin_file.specs.Contents.{contents, told}
-use Rattle.one_block.specs.OneFiles.{container_fault, fault_place, record_place}
-use Rattle.shelf_check.specs.declared.containers.FileContents.{FileContents}
+use Rattle.one_block.specs.Containers.{container_fault, fault_place, record_place, HasContents}
+use Rattle.one_block.specs.declared.containers.FileContents.{FileContents}
+use Rattle.one_block.proofs.OptionFacts.{some_is, none_of}
+use Rattle.one_block.proofs.ContainerFacts.{more_than_one, empty_of}
 use Rattle.shelf_check.specs.declared.faults.FileFault.{FileFault}
 use Rattle.shelf_check.specs.declared.faults.FileFault.TheVariants.{Bad, OtherType, Mem}
 use Rattle.shelf_check.specs.declared.forms.Form.{Form}
 use Rattle.shelf_check.specs.Containers.{HasHead, IsKept}
 use Rattle.shelf_check.specs.Singles.{IsBadAfterHead, FormedRefused, FormedAnswers}
-use Rattle.shelf_check.specs.Steps.{HasContents, HeadRefused, OnlyRefused, OnlyAnswers}
+use Rattle.shelf_check.specs.Steps.{HeadRefused, OnlyRefused, OnlyAnswers}
 use Rattle.shelf_check.proofs.ContainerFacts.{has_head, bad_head, other_type}
-
-some_is : {A : Type 0} (x y : A) → (let a : Option A = Some x in a) ≡ Some y → x ≡ y
-some_is x y e = cc e
-
--- more than one message, seen from the first
-more_than_one : (m : List ℕ) (more : List (List ℕ)) → nat_lt 1 (length (m ∷ more)) ≡ nat_lt 0 (length more)
-more_than_one m more = by_list more
-  where
-    by_list : (l : List (List ℕ)) → nat_lt 1 (length (m ∷ l)) ≡ nat_lt 0 (length l)
-    by_list [] = refl
-    by_list (x ∷ l) = lt-ltb 1 (length (m ∷ x ∷ l)) (omega arith) ∙ sym (lt-ltb 0 (length (x ∷ l)) (omega arith))
-
-no_fault : {A : Type 0} (o : Option A) → is_some o ≡ false → o ≡ None
-no_fault None e = refl
-no_fault (Some x) e = absurd (cc e)
-
-empty_of : (l : List (List ℕ)) → nat_lt 0 (length l) ≡ false → l ≡ []
-empty_of l e = nil_from_length l (let none = ltb-false 0 (length l) e in omega arith)
 
 module _ (form : Form) (name text : List ℕ) (kept : Option (List ℕ)) (file : FileContents) (end : ℕ) (has : HasContents text file) (end_is : end ≡ unwrap_or (option_map fault_place file.fault) (told (length text))) where
   pub head_refused : (e : FileFault) → HeadRefused file.block_type kept end e → FormedRefused form name text kept e
@@ -68,7 +51,7 @@ module _ (form : Form) (name text : List ℕ) (kept : Option (List ℕ)) (file :
                   texts = messages ∙ ap (λ (l : List (List ℕ)). m ∷ l) (empty_of more ends.0) ∙ ap (λ (x : List ℕ). x ∷ []) only.0.record_is.text;
                   readable = (only.0.record_is.readable, tt);
                 };
-                whole = no_fault (container_fault text) ends.1;
+                whole = none_of (container_fault text) ends.1;
               };
               same = same;
               named = only.0.named;

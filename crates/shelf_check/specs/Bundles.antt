@@ -6,11 +6,11 @@ use Rattle.block_record.specs.declared.blocks.Block.{Block}
 use Rattle.block_record.specs.declared.blocks.BlockRef.{BlockRef}
 use Rattle.block_record.specs.Records.{record_text}
 use Rattle.dbin_file.specs.Contents.{contents, told}
-use Rattle.one_block.specs.OneFiles.{container_fault, empty_place, record_place}
+use Rattle.one_block.specs.Containers.{container_fault, empty_place, record_place, IsRecordOf, IsNoRecord}
 use Rattle.shelf_check.specs.declared.bundles.BundleRead.{BundleRead}
 use Rattle.shelf_check.specs.declared.faults.FileFault.{FileFault}
 use Rattle.shelf_check.specs.declared.faults.FileFault.TheVariants.{Bad, OtherType, Mem}
-use Rattle.shelf_check.specs.Containers.{IsRecordOf, AreRecords, HoldsBlocks, HasHead, IsKept, IsBadHead, HasOtherType, IsNoRecord}
+use Rattle.shelf_check.specs.Containers.{AreRecords, HoldsBlocks, HasHead, IsKept, IsBadHead, HasOtherType}
 
 -- the base of the hundred in which a number lies
 abbrev pub hundred : ℕ → ℕ

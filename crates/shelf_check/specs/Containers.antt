@@ -1,20 +1,10 @@
 -- Files of blocks: containers whose messages are records, all of one type.
-use Rattle.std.specs.Prelude.{ℕ, ◌≡◌, ◌+◌, List, map, reverse, Option, None, Some, ⊤}
+use Rattle.std.specs.Prelude.{ℕ, ◌≡◌, List, map, reverse, Option, None, Some, ⊤}
 use Rattle.block_record.specs.declared.blocks.Block.{Block}
 use Rattle.std.specs.List.{AllByRecursion}
-use Rattle.block_record.specs.Records.{record_text, record_fault, IsRecordable}
-use Rattle.dbin_file.specs.Contents.{contents, told}
-use Rattle.one_block.specs.OneFiles.{container_fault, empty_place}
-
--- a block is the only one with its record: its ids are ids, and its numbers have 64 bits
-pub record IsReadable (b : Block) : Type 0 where
-  pub recordable : IsRecordable b
-  pub only : (other : Block) → IsRecordable other → record_text b ≡ record_text other → other ≡ b
-
--- a message is the record of this block
-pub record IsRecordOf (message : List ℕ) (b : Block) : Type 0 where
-  pub text : message ≡ record_text b
-  pub readable : IsReadable b
+use Rattle.block_record.specs.Records.{record_text}
+use Rattle.dbin_file.specs.Contents.{contents}
+use Rattle.one_block.specs.Containers.{container_fault, empty_place, IsReadable}
 
 -- messages are the records of these blocks, the newest block first
 pub record AreRecords (messages : List (List ℕ)) (blocks : List Block) : Type 0 where
@@ -47,10 +37,3 @@ pub record HasOtherType (text : List ℕ) (kept : Option (List ℕ)) (held offer
   pub typed : (contents text).block_type ≡ Some offered
   pub kept_is : kept ≡ Some held
   pub other : held ≡ offered → ⊥
-
--- a message that stands at this place is no block's record: its first bad field is there
-pub record IsNoRecord (place : ℕ) (message : List ℕ) (at : ℕ) : Type 0 where
-  pub none : (b : Block) → IsRecordable b → message ≡ record_text b → ⊥
-  pub byte : ℕ
-  pub fault : record_fault message ≡ Some byte
-  pub at_is : at ≡ told (place + byte)

@@ -1,5 +1,5 @@
 -- The whole shelf: what is answered to it.
-use Rattle.std.specs.Prelude.{ℕ, ◌≡◌, ◌⊎◌, List, length, Option, Result, Ok, Err}
+use Rattle.std.specs.Prelude.{ℕ, ◌≡◌, ◌⊎◌, List, length, Option, None, Some, Result, Ok, Err}
 use Rattle.dbin_file.specs.Contents.{told}
 use Rattle.outer_world.specs.Files.{Files}
 use Rattle.shelf_check.specs.declared.check.Report.{Report}
@@ -48,3 +48,13 @@ IsFirstFault files name fault = IsFirstInMerged files name fault ⊎ (IsFirstInO
 abbrev pub CheckAnswers : Option Files → ℕ → ℕ → Result Report LoadFault → Type 0
 CheckAnswers files before now (Ok report) = IsGood files report
 CheckAnswers files before now (Err fault) = Refused (λ name f. IsFirstFault files name f) before now fault
+
+-- the files are told and good, and this is how many there are
+abbrev pub IsGoodShelf : Option Files → Report → Type 0
+IsGoodShelf None report = ⊥
+IsGoodShelf (Some files) report = IsGood (Some files) report
+
+-- the numbers are reported, unless a call of the shelf failed or there was no memory: no file is a cause of a refusal
+abbrev pub IsReported : Report → ℕ → ℕ → Result Report LoadFault → Type 0
+IsReported report before now (Ok found) = found ≡ report
+IsReported report before now (Err fault) = Refused (λ name f. ⊥) before now fault

@@ -4,12 +4,12 @@ use Rattle.std.specs.Option.{is_some}
 use Rattle.block_record.specs.declared.blocks.Block.{Block}
 use Rattle.block_record.specs.Slips.{slip}
 use Rattle.dbin_file.specs.Contents.{contents, told}
-use Rattle.one_block.specs.OneFiles.{container_fault, empty_place, record_place}
+use Rattle.one_block.specs.Containers.{container_fault, empty_place, record_place, IsRecordOf, IsNoRecord}
 use Rattle.shelf_check.specs.declared.faults.FileFault.{FileFault}
 use Rattle.shelf_check.specs.declared.faults.FileFault.TheVariants.{Bad, OtherType, Mem}
 use Rattle.shelf_check.specs.declared.forms.Folder.{Folder}
 use Rattle.shelf_check.specs.declared.forms.Form.{Form}
-use Rattle.shelf_check.specs.Containers.{IsRecordOf, HoldsBlocks, HasHead, IsKept, IsBadHead, HasOtherType, IsNoRecord}
+use Rattle.shelf_check.specs.Containers.{HoldsBlocks, HasHead, IsKept, IsBadHead, HasOtherType}
 use Rattle.shelf_check.specs.Forms.{form_of, own_name}
 
 -- a file whose name is of this form holds this block and nothing else, under the block's own name

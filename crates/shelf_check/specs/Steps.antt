@@ -3,22 +3,15 @@ use Rattle.std.specs.Prelude.{ℕ, ◌≡◌, ◌+◌, ◌⊎◌, Bool, true, fa
 use Rattle.block_record.specs.declared.blocks.Block.{Block}
 use Rattle.block_record.specs.declared.blocks.BlockRef.{BlockRef}
 use Rattle.block_record.specs.Slips.{slip}
-use Rattle.dbin_file.specs.Contents.{contents, told}
-use Rattle.one_block.specs.OneFiles.{container_fault}
-use Rattle.shelf_check.specs.declared.containers.FileContents.{FileContents}
+use Rattle.dbin_file.specs.Contents.{told}
+use Rattle.one_block.specs.Containers.{IsRecordOf, IsNoRecord}
 use Rattle.shelf_check.specs.declared.faults.FileFault.{FileFault}
 use Rattle.shelf_check.specs.declared.faults.FileFault.TheVariants.{Bad, OtherType, Mem}
 use Rattle.shelf_check.specs.declared.forms.Form.{Form}
 use Rattle.shelf_check.specs.Bundles.{is_next, block_ref, tip_after, AreNext, IsNotNext, IsBadMessage}
-use Rattle.shelf_check.specs.Containers.{IsRecordOf, AreRecords, IsKept, IsNoRecord}
+use Rattle.shelf_check.specs.Containers.{AreRecords, IsKept}
 use Rattle.shelf_check.specs.Forms.{own_name}
 use Rattle.shelf_check.specs.Singles.{IsMisnamed}
-
--- what a text says as a container
-pub record HasContents (text : List ℕ) (file : FileContents) : Type 0 where
-  pub block_type : file.block_type ≡ (contents text).block_type
-  pub messages : file.messages.items ≡ (contents text).messages
-  pub fault : file.fault ≡ container_fault text
 
 -- a type that was found is another than the one that is kept
 pub record IsOtherThan (found kept : Option (List ℕ)) (held offered : List ℕ) : Type 0 where

@@ -3,11 +3,11 @@
 ghost use Rattle.std.specs.Prelude.{◌≡◌, ◌==◌, ◌&&◌, ◌<◌, IfOk, IfSome, length};
 ghost use Rattle.std.specs.List.{position};
 ghost use Rattle.std.specs.Option.{is_some};
-ghost use Rattle.one_block.specs.Numerals.{filled_number, without_zeros as unfilled};
+ghost use Rattle.one_block.specs.Numerals.{filled_number};
 ghost use Rattle.shelf_check.specs.Forms.{form_of as form_so, own_name as own_name_of, by_reader as by_reader_form, by_block as by_block_form, by_block_at as by_block_ended, is_dash_and_id};
 
-use block_record::{ReaderName, Slip, is_id, read_number};
-use one_block::{bare_name, forked_name, name_of, parse_name, whole_name};
+use block_record::{ReaderName, Slip, is_id};
+use one_block::{bare_name, forked_name, name_of, parse_name, read_filled, whole_name};
 use outer_world::FileName;
 use std::alloc::{AllocError, Global};
 
@@ -87,7 +87,7 @@ fn by_block_at(bare: &[u8], end: usize) -> Option<Form>
 fn is_block_name(num: &[u8], rest: &[u8]) -> bool
     ensures { result ≡ (is_some (filled_number 10 num.now) && is_dash_and_id rest.now) }
 {
-    is_filled(num) && is_dash_id(rest)
+    read_filled(10, num).is_some() && is_dash_id(rest)
 }
 
 /// Whether the text is a dash and an id.
@@ -98,33 +98,6 @@ fn is_dash_id(text: &[u8]) -> bool
         [_, id @ ..] => is_id(id),
         [] => false,
     }
-}
-
-/// Whether the text is a number, with zeros in front where it has less than ten digits.
-fn is_filled(text: &[u8]) -> bool
-    ensures { result ≡ is_some (filled_number 10 text.now) }
-{
-    if text.len() < 10 {
-        false
-    } else if text.len() == 10 {
-        read_number(without_zeros(text)).is_some()
-    } else {
-        read_number(text).is_some()
-    }
-}
-
-/// The text without the zeros in front, of which the last stays where nothing follows it.
-fn without_zeros(text: &[u8]) -> &[u8]
-    ensures { result.now ≡ unfilled text.now }
-{
-    let mut rest = text;
-    while let [b'0', more @ ..] = rest {
-        if more.is_empty() {
-            break;
-        }
-        rest = more;
-    }
-    rest
 }
 
 /// The whole name of the file of a block, in this form.

@@ -1,15 +1,15 @@
 //! A file that holds one block.
 
-ghost use Rattle.std.specs.Prelude.{◌≡◌, ◌||◌, nat_lt, length, IfOk, IsTrue, ◌↔◌};
-ghost use Rattle.std.specs.Option.{is_some};
+ghost use Rattle.std.specs.Prelude.{◌≡◌, IfOk, IsTrue, ◌↔◌};
 ghost use Rattle.shelf_check.specs.Forms.{own_name as own_name_of};
 ghost use Rattle.shelf_check.specs.Singles.{SingleAnswers, FormedAnswers};
 ghost use Rattle.shelf_check.specs.Steps.{OnlyAnswers};
 
-use crate::containers::{FileContents, decode_at, end_place, head_type, read_contents};
+use crate::containers::{decode_at, head_type};
 use crate::faults::FileFault;
 use crate::forms::{Folder, Form, form_of, own_name};
 use block_record::{Bytes, Slip, TypeName, into_slip};
+use one_block::{FileContents, end_place, goes_on, read_contents};
 use outer_world::FileName;
 use std::alloc::{AllocError, Global};
 
@@ -54,13 +54,6 @@ fn check_formed(
         Some(first) => check_only(alloc, form, name, first, place, goes_on, block_type),
         None => Err(FileFault::Bad { at: end }),
     }
-}
-
-/// Whether more than a first message is there, or a fault.
-fn goes_on(file: &FileContents) -> bool
-    ensures { result ≡ (nat_lt 1 (length file.now.messages.items) || is_some file.now.fault) }
-{
-    file.messages.len() > 1 || file.fault.is_some()
 }
 
 /// The type of a file whose message at this place is the record of a block of this name, where nothing

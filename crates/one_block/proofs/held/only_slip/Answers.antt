@@ -7,7 +7,7 @@ use Rattle.one_block.proofs.held.only_slip.Goals as goal
 pub returns-then-not-branch : goal.returns-then-not-branch
 returns-then-not-branch c = inr (inl (record {
   block = c.in_ok-block.block;
-  record_is = sym c.as_bytes.ensures ∙ c.in_ok-block.ensures;
+  record_is = rw c.as_bytes.ensures at c.in_ok-block.ensures;
   other = λ own. false≢true (sym c.if-not-branch.true ∙ c.in_ok-is_named.ensures.1 (own ∙ ap (λ s. one_block_name s c.args.reader.now) (sym c.into_slip-slip.ensures)));
   place = refl;
 }))
@@ -15,7 +15,7 @@ returns-then-not-branch c = inr (inl (record {
 pub returns-then-goes_on : goal.returns-then-goes_on
 returns-then-goes_on c = inr (inr (record {
   block = c.in_ok-block.block;
-  record_is = sym c.as_bytes.ensures ∙ c.in_ok-block.ensures;
+  record_is = rw c.as_bytes.ensures at c.in_ok-block.ensures;
   named = c.in_ok-is_named.ensures.0 c.if-not-branch.false ∙ ap (λ s. one_block_name s c.args.reader.now) c.into_slip-slip.ensures;
   follows = c.if-goes_on.true;
   at_is = c.saturating_add.ensures ∙ ap (λ (l : List ℕ). told (c.args.place + length l)) c.as_bytes-then-goes_on.ensures;
@@ -25,7 +25,7 @@ pub returns : goal.returns
 returns c = record {
   block = c.in_ok-block.block;
   slip_is = c.into_slip-slip.ensures;
-  record_is = sym c.as_bytes.ensures ∙ c.in_ok-block.ensures;
+  record_is = rw c.as_bytes.ensures at c.in_ok-block.ensures;
   named = c.in_ok-is_named.ensures.0 c.if-not-branch.false;
   ends = c.if-goes_on.false;
 }

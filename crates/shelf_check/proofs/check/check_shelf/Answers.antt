@@ -1,11 +1,12 @@
-use Rattle.std.proofs.Common.{arith, ◌∙◌, ◌≤◌}
+use Rattle.std.proofs.Common.{rules, arith, ◌∙◌, ◌≤◌, Ok}
 use Rattle.std.proofs.Math.Nat.{le_refl}
 use Rattle.std.proofs.lemmas.Result.{err_from_is_err_and}
 use Rattle.shelf_check.specs.declared.forms.Folder.TheVariants.{One, Forked}
 use Rattle.shelf_check.specs.Folders.{IsFirstIn}
-use Rattle.shelf_check.specs.Shelf.{IsFirstFault}
+use Rattle.shelf_check.specs.Shelf.{IsFirstFault, CheckAnswers}
 use Rattle.shelf_check.proofs.RefusalFacts.{refused_on}
 use Rattle.shelf_check.proofs.ShelfFacts.{in_one, in_forked}
+use Rattle.shelf_check.proofs.WholeFacts.{good_answer}
 use Rattle.shelf_check.proofs.check.check_shelf.Goals as goal
 
 pub returns-in_err-one-clause-answer : goal.returns-in_err-one-clause-answer
@@ -27,3 +28,25 @@ returns-in_err-forked-clause-answer g c =
     (in_forked (g.S.Shelf.files c.args.shelf.now) (g.S.Shelf.files c.check_merged.new.shelf) (g.S.Shelf.files c.check_folder.new.shelf) c.in_ok-bundles.bundles c.in_ok-bundles.merged c.in_ok-one.one
     c.in_ok-bundles.ensures.files (c.in_ok-one.ensures.files ∙ c.in_ok-bundles.ensures.files) c.in_ok-bundles.ensures.answer c.in_ok-one.ensures.answer)
     c.in_err-forked.field-0.0 c.in_err-forked.ensures.answer)
+
+pub returns-in_err-bundles-clause-good : goal.returns-in_err-bundles-clause-good
+returns-in_err-bundles-clause-good g c =
+    let answer : CheckAnswers (g.S.Shelf.files c.args.shelf.now) (g.S.Shelf.shelf_faults c.args.shelf.now) (g.S.Shelf.shelf_faults c.check_merged.new.shelf) c.from_residual.result = search rules in
+    good_answer (g.S.Shelf.files c.args.shelf.now) (g.S.Shelf.shelf_faults c.args.shelf.now) (g.S.Shelf.shelf_faults c.check_merged.new.shelf) c.from_residual.result answer
+
+pub returns-in_err-one-clause-good : goal.returns-in_err-one-clause-good
+returns-in_err-one-clause-good g c =
+    good_answer (g.S.Shelf.files c.args.shelf.now) (g.S.Shelf.shelf_faults c.args.shelf.now) (g.S.Shelf.shelf_faults c.check_folder.new.shelf) c.from_residual-in_err-one.result
+    (returns-in_err-one-clause-answer g c)
+
+pub returns-in_err-forked-clause-good : goal.returns-in_err-forked-clause-good
+returns-in_err-forked-clause-good g c =
+    good_answer (g.S.Shelf.files c.args.shelf.now) (g.S.Shelf.shelf_faults c.args.shelf.now) (g.S.Shelf.shelf_faults c.check_folder-2.new.shelf) c.from_residual-in_err-forked.result
+    (returns-in_err-forked-clause-answer g c)
+
+pub returns-clause-good : goal.returns-clause-good
+returns-clause-good g c =
+    let answer : CheckAnswers (g.S.Shelf.files c.args.shelf.now) (g.S.Shelf.shelf_faults c.args.shelf.now) (g.S.Shelf.shelf_faults c.check_folder-2.new.shelf)
+    (Ok (record { bundles = c.in_ok-bundles.bundles; blocks = c.in_ok-bundles.merged.blocks; one = c.in_ok-one.one.files; forked = c.in_ok-forked.forked.files })) = search rules in
+    good_answer (g.S.Shelf.files c.args.shelf.now) (g.S.Shelf.shelf_faults c.args.shelf.now) (g.S.Shelf.shelf_faults c.check_folder-2.new.shelf)
+    (Ok (record { bundles = c.in_ok-bundles.bundles; blocks = c.in_ok-bundles.merged.blocks; one = c.in_ok-one.one.files; forked = c.in_ok-forked.forked.files })) answer

@@ -1,6 +1,6 @@
 use Rattle.std.proofs.Common.{[], ◌++◌, ◌∙◌, ap}
-use Rattle.one_block.proofs.HeldFacts.{all_messages}
-use Rattle.one_block.proofs.held.feed_all.Goals as goal
+use Rattle.one_block.proofs.ContainerFacts.{all_messages}
+use Rattle.one_block.proofs.containers.feed_all.Goals as goal
 
 pub returns-clause-messages : goal.returns-clause-messages
 returns-clause-messages c =

@@ -1,0 +1,304 @@
+-- A good shelf has no first fault, and one report: what stands before a fault is what the files tell.
+use Rattle.std.proofs.Common.{◌≡◌, ◌+◌, ◌⊎◌, ℕ, List, [], ◌∷◌, ◌++◌, length, map, reverse, codes, Option, Some, None, Result, Ok, Err, inl, inr, refl, sym, ap, subst, ◌∙◌}
+use Rattle.std.specs.Prelude.{IsPermutation}
+use Rattle.std.specs.Option.{unwrap_or}
+use Rattle.std.specs.List.{AllByRecursion}
+use Rattle.std.specs.Cmp.{IsTotalOrder, then_total, on_total, nat_cmp_total}
+use Rattle.std.specs.Cmp.Lexicographic.{slice_cmp, nat_list_cmp_total}
+use Rattle.std.specs.Ordering.{nat_cmp, ordering_then}
+use Rattle.std.specs.declared.cmp.Ordering.{Ordering}
+use Rattle.std.specs.declared.cmp.Ordering.TheVariants as order
+use Rattle.std.proofs.lemmas.Map.Lookups.{exact_unsigned, exact_bytes}
+use Rattle.std.proofs.lemmas.List.{length-map, length-reverse}
+use Rattle.block_record.specs.declared.blocks.Block.{Block}
+use Rattle.block_record.specs.declared.blocks.BlockRef.{BlockRef}
+use Rattle.block_record.specs.Records.{record_text}
+use Rattle.dbin_file.specs.Contents.{contents, told}
+use Rattle.one_block.specs.Files.{merged_base_of}
+use Rattle.one_block.specs.declared.faults.StoreFault.TheVariants as store
+use Rattle.outer_world.specs.Files.{Files, file_at}
+use Rattle.shelf_check.specs.declared.check.Report.{Report}
+use Rattle.shelf_check.specs.declared.faults.FileFault.{FileFault}
+use Rattle.shelf_check.specs.declared.faults.FileFault.TheVariants.{Bad, OtherType, Mem}
+use Rattle.shelf_check.specs.declared.faults.LoadFault.{LoadFault}
+use Rattle.shelf_check.specs.declared.faults.LoadFault.TheVariants.{Store, KindClash, HistoryFull}
+use Rattle.shelf_check.specs.declared.forms.Folder.{Folder}
+use Rattle.shelf_check.specs.declared.forms.Folder.TheVariants.{One, Forked}
+use Rattle.shelf_check.specs.declared.forms.Form.{Form}
+use Rattle.one_block.specs.Containers.{IsReadable}
+use Rattle.shelf_check.specs.Containers.{AreRecords}
+use Rattle.shelf_check.specs.Bundles.{tip_after, BundleRefused}
+use Rattle.shelf_check.specs.Forms.{form_of}
+use Rattle.shelf_check.specs.Singles.{FormedRefused, AnswersBy}
+use Rattle.shelf_check.specs.Folders.{HasText, Single, IsSingle, kept_after, AreSingles, names_of, IsFolder, IsBadFile}
+use Rattle.shelf_check.specs.Folders.{IsFirstIn as IsFirstInFolder}
+use Rattle.shelf_check.specs.Merged.{Entry, entry_order, AreBased, AreOrdered, Bundle, IsBundleOn, kept_of, tip_of, block_count, AreBundles, entries_of, IsMerged, IsOtherName, IsFirstBased, IsBadBundle}
+use Rattle.shelf_check.specs.Merged.{IsFirstIn as IsFirstInMerged}
+use Rattle.shelf_check.specs.Refusals.{Refused}
+use Rattle.shelf_check.specs.Shelf.{report_of, IsGood, IsFirstFault, CheckAnswers, IsGoodShelf, IsReported}
+use Rattle.shelf_check.proofs.LawFacts.{taken_bundle, taken_single}
+use Rattle.shelf_check.proofs.ListFacts.{first_same, rest_same, map_turned, Split, split_at}
+use Rattle.shelf_check.proofs.SortedFacts.{sorted_same}
+
+-- ---- texts and what they hold
+
+-- files of one name have one text
+one_text : (files : Files) (n m t u : List ℕ) → HasText (Some files) n t → HasText (Some files) m u → n ≡ m → t ≡ u
+one_text files n m t u a b e = sym a ∙ ap (λ x. unwrap_or (file_at x files) []) e ∙ b
+
+-- a text has one type
+one_type : (t u held offered : List ℕ) → (contents t).block_type ≡ Some held → (contents u).block_type ≡ Some offered → t ≡ u → held ≡ offered
+one_type t u held offered a b e = let s : (let o : Option (List ℕ) = Some held in o) ≡ Some offered = sym a ∙ ap (λ x. (contents x).block_type) e ∙ b in cc s
+
+one_list : (xs ys : List Block) → map record_text xs ≡ map record_text ys → AllByRecursion IsReadable xs → AllByRecursion IsReadable ys → xs ≡ ys
+one_list [] [] e ax ay = refl
+one_list [] (y ∷ ys) e ax ay = absurd (cc e)
+one_list (x ∷ xs) [] e ax ay = absurd (cc e)
+one_list (x ∷ xs) (y ∷ ys) e ax ay =
+    let head : record_text y ≡ record_text x = cc e in
+    let tail : map record_text xs ≡ map record_text ys = cc e in
+    let same : x ≡ y = ay.0.only x ax.0.recordable head in
+    ap (λ (z : Block). z ∷ xs) same ∙ ap (λ (zs : List Block). y ∷ zs) (one_list xs ys tail ax.1 ay.1)
+
+-- a text has one list of blocks
+one_content : (t u : List ℕ) (xs ys : List Block) → AreRecords (contents t).messages xs → AreRecords (contents u).messages ys → t ≡ u → xs ≡ ys
+one_content t u xs ys a b e =
+    one_list xs ys (map_turned record_text xs ys (sym a.texts ∙ ap (λ x. (contents x).messages) e ∙ b.texts)) a.readable b.readable
+
+-- ---- the folders of single files
+
+type_same : (folder : Folder) (files : Files) (k l : Option (List ℕ)) (x y : Single) → IsSingle folder (Some files) k x → IsSingle folder (Some files) l y → x.name ≡ y.name → x.block_type ≡ y.block_type
+type_same folder files k l x y a b e = one_type x.text y.text x.block_type y.block_type a.single.holds.typed b.single.holds.typed (one_text files x.name y.name x.text y.text a.there b.there e)
+
+kept_same : (folder : Folder) (files : Files) (kept : Option (List ℕ)) (xs ys : List Single) → AreSingles folder (Some files) kept xs → AreSingles folder (Some files) kept ys
+    → map (λ x. x.name) xs ≡ map (λ x. x.name) ys → kept_after kept xs ≡ kept_after kept ys
+kept_same folder files kept [] [] a b e = refl
+kept_same folder files kept [] (y ∷ ys) a b e = absurd (cc e)
+kept_same folder files kept (x ∷ xs) [] a b e = absurd (cc e)
+kept_same folder files kept (x ∷ xs) (y ∷ ys) a b e =
+    let one : x.name ≡ y.name = cc e in
+    ap Some (type_same folder files (kept_after kept xs) (kept_after kept ys) x y a.0 b.0 one)
+
+older_singles : (folder : Folder) (files : Option Files) (kept : Option (List ℕ)) (newer : List Single) (x : Single) (older : List Single)
+    → AreSingles folder files kept (newer ++ x ∷ older) → AreSingles folder files kept (x ∷ older)
+older_singles folder files kept [] x older good = good
+older_singles folder files kept (n ∷ newer) x older good = older_singles folder files kept newer x older good.1
+
+-- a good file is not bad
+no_bad_file : (folder : Folder) (files : Files) (kept : Option (List ℕ)) (x : Single) (fault : FileFault) → IsSingle folder (Some files) kept x → IsBadFile folder (Some files) kept x.name fault → fault ≡ Mem
+no_bad_file folder files kept x fault good bad =
+    let P : Option Form → Type 0 = λ o. AnswersBy o x.name bad.text kept (Err fault) in
+    let Q : List ℕ → Type 0 = λ t. FormedRefused good.form x.name t kept fault in
+    taken_single good.form x.name x.text kept x.block_type x.block good.single fault
+    (subst Q (one_text files x.name x.name bad.text x.text bad.there good.there refl) (subst P good.formed bad.refused))
+
+no_fault_in_folder : (folder : Folder) (files : Files) (kept : Option (List ℕ)) (singles : List Single) (name : List ℕ) (fault : FileFault)
+    → IsFolder folder (Some files) kept singles → IsFirstInFolder folder (Some files) kept name fault → fault ≡ Mem
+no_fault_in_folder folder files kept singles name fault good bad =
+    no_bad_file folder files (kept_after kept s.older) s.x fault parts.0 (subst (λ (n : List ℕ). IsBadFile folder (Some files) (kept_after kept s.older) n fault) (sym s.item) (subst (λ k. IsBadFile folder (Some files) k name fault) (sym kept_is) bad.first.bad))
+  where
+    s : Split (λ (x : Single). x.name) singles name bad.first.singles
+    s = split_at (λ (x : Single). x.name) singles bad.first.singles name bad.first.more (good.listed.all ∙ sym bad.listed.all ∙ bad.first.names_are)
+
+    parts : AreSingles folder (Some files) kept (s.x ∷ s.older)
+    parts = older_singles folder (Some files) kept s.newer s.x s.older (subst (AreSingles folder (Some files) kept) s.whole good.good)
+
+    kept_is : kept_after kept s.older ≡ kept_after kept bad.first.singles
+    kept_is = kept_same folder files kept s.older bad.first.singles parts.1 bad.first.good s.same
+
+-- two lists of the files of a folder have the same names
+folder_same : (folder : Folder) (files : Files) (kept : Option (List ℕ)) (xs ys : List Single) → IsFolder folder (Some files) kept xs → IsFolder folder (Some files) kept ys → map (λ x. x.name) xs ≡ map (λ x. x.name) ys
+folder_same folder files kept xs ys a b = map_turned (λ (x : Single). x.name) xs ys (a.listed.all ∙ sym b.listed.all)
+
+kept_in : (folder : Folder) (files : Files) (kept : Option (List ℕ)) (xs ys : List Single) → IsFolder folder (Some files) kept xs → IsFolder folder (Some files) kept ys → kept_after kept xs ≡ kept_after kept ys
+kept_in folder files kept xs ys a b = kept_same folder files kept xs ys a.good b.good (folder_same folder files kept xs ys a b)
+
+-- ---- the folder of merged blocks
+
+entry_total : IsTotalOrder entry_order
+entry_total = then_total (on_total (λ (e : Entry). e.0) nat_cmp_total) (on_total (λ (e : Entry). e.1) nat_list_cmp_total)
+
+entry_exact : (a b : Entry) → entry_order a b ≡ order.Equal → a ≡ b
+entry_exact a b e = by_order (nat_cmp a.0 b.0) (slice_cmp nat_cmp a.1 b.1) refl refl e
+  where
+    pair_is : (m n : ℕ) (p q : List ℕ) → m ≡ n → p ≡ q → (let x : Entry = (m, p) in x) ≡ (n, q)
+    pair_is m n p q i j = cc
+
+    by_order : (r t : Ordering) → nat_cmp a.0 b.0 ≡ r → slice_cmp nat_cmp a.1 b.1 ≡ t → ordering_then r t ≡ order.Equal → a ≡ b
+    by_order order.Less t r_is t_is same = absurd (cc same)
+    by_order order.Equal t r_is t_is same = pair_is a.0 b.0 a.1 b.1 (exact_unsigned a.0 b.0 r_is) (exact_bytes a.1 b.1 (t_is ∙ same))
+    by_order order.Greater t r_is t_is same = absurd (cc same)
+
+-- names have one list of bases
+based_same : (xs ys : List Entry) → map (λ e. e.1) xs ≡ map (λ e. e.1) ys → map (λ e. Some e.0) xs ≡ map (λ e. Some e.0) ys → xs ≡ ys
+based_same [] [] names bases = refl
+based_same [] (y ∷ ys) names bases = absurd (cc names)
+based_same (x ∷ xs) [] names bases = absurd (cc names)
+based_same (x ∷ xs) (y ∷ ys) names bases =
+    let base : x.0 ≡ y.0 = cc bases in
+    let name : x.1 ≡ y.1 = cc names in
+    let tail_names : map (λ (e : Entry). e.1) xs ≡ map (λ (e : Entry). e.1) ys = cc names in
+    let tail_bases : map (λ (e : Entry). Some e.0) xs ≡ map (λ (e : Entry). Some e.0) ys = cc bases in
+    pair_is x.0 y.0 x.1 y.1 xs ys base name (based_same xs ys tail_names tail_bases)
+  where
+    pair_is : (m n : ℕ) (p q : List ℕ) (us vs : List Entry) → m ≡ n → p ≡ q → us ≡ vs → (m, p) ∷ us ≡ (n, q) ∷ vs
+    pair_is m n p q us vs i j k = cc
+
+ordered_same : (names shown : List (List ℕ)) (xs ys : List Entry) → AreOrdered names xs → AreOrdered shown ys → names ≡ shown → xs ≡ ys
+ordered_same names shown xs ys a b same =
+    let found : a.found ≡ b.found = based_same a.found b.found (sym a.based.names_are ∙ same ∙ b.based.names_are) (sym a.based.bases ∙ ap (map merged_base_of) same ∙ b.based.bases) in
+    sorted_same entry_order entry_total entry_exact b.found xs ys (subst (λ (l : List Entry). IsPermutation l xs) found a.all) b.all a.in_order b.in_order
+
+abbrev entry_of : Bundle → Entry
+entry_of x = (x.base, x.name)
+
+blocks_same : (files : Files) (k l : Option (List ℕ)) (before before' : Option BlockRef) (x y : Bundle) → IsBundleOn (Some files) k before x → IsBundleOn (Some files) l before' y → x.name ≡ y.name → (x.block_type ≡ y.block_type) × (x.blocks ≡ y.blocks)
+blocks_same files k l before before' x y a b e =
+    let t = one_text files x.name y.name x.text y.text a.there b.there e in
+    (one_type x.text y.text x.block_type y.block_type a.bundle.holds.typed b.bundle.holds.typed t, one_content x.text y.text x.blocks y.blocks a.bundle.holds.records b.bundle.holds.records t)
+
+-- what is kept of files of merged blocks is what their names tell
+pub record KeepAlike (xs ys : List Bundle) : Type 0 where
+  pub kept : kept_of xs ≡ kept_of ys
+  pub tip : tip_of xs ≡ tip_of ys
+  pub count : block_count xs ≡ block_count ys
+
+keep_alike : (files : Files) (xs ys : List Bundle) → AreBundles (Some files) xs → AreBundles (Some files) ys → map entry_of xs ≡ map entry_of ys → KeepAlike xs ys
+keep_alike files [] [] a b e = record { kept = refl; tip = refl; count = refl }
+keep_alike files [] (y ∷ ys) a b e = absurd (cc e)
+keep_alike files (x ∷ xs) [] a b e = absurd (cc e)
+keep_alike files (x ∷ xs) (y ∷ ys) a b e =
+    let name : x.name ≡ y.name = ap (λ (i : Entry). i.1) (first_same (entry_of x) (entry_of y) (map entry_of xs) (map entry_of ys) e) in
+    let tail : map entry_of xs ≡ map entry_of ys = rest_same (entry_of x) (entry_of y) (map entry_of xs) (map entry_of ys) e in
+    let same = blocks_same files (kept_of xs) (kept_of ys) (tip_of xs) (tip_of ys) x y a.0 b.0 name in
+    let older = keep_alike files xs ys a.1 b.1 tail in
+    record {
+      kept = ap Some same.0;
+      tip = ap (λ t. tip_after t x.blocks) older.tip ∙ ap (tip_after (tip_of ys)) same.1;
+      count = ap (λ n. n + length x.blocks) older.count ∙ ap (λ (l : List Block). block_count ys + length l) same.1;
+    }
+
+older_bundles : (files : Option Files) (newer : List Bundle) (x : Bundle) (older : List Bundle) → AreBundles files (newer ++ x ∷ older) → AreBundles files (x ∷ older)
+older_bundles files [] x older good = good
+older_bundles files (n ∷ newer) x older good = older_bundles files newer x older good.1
+
+-- each name has a base
+no_other_name : (front : List (List ℕ)) (name : List ℕ) (more : List (List ℕ)) (entries : List Entry) → map merged_base_of (front ++ name ∷ more) ≡ map (λ e. Some e.0) entries → merged_base_of name ≡ None → ⊥
+no_other_name [] name more [] e none = cc e
+no_other_name [] name more (x ∷ xs) e none =
+    let head : merged_base_of name ≡ Some x.0 = cc e in
+    let clash : (let o : Option ℕ = None in o) ≡ Some x.0 = sym none ∙ head in
+    cc clash
+no_other_name (f ∷ front) name more [] e none = cc e
+no_other_name (f ∷ front) name more (x ∷ xs) e none =
+    let tail : map merged_base_of (front ++ name ∷ more) ≡ map (λ (e : Entry). Some e.0) xs = cc e in
+    no_other_name front name more xs tail none
+
+-- a good file is not bad
+no_bad_bundle : (files : Files) (kept : Option (List ℕ)) (before : Option BlockRef) (x : Bundle) (base : ℕ) (name : List ℕ) (fault : FileFault)
+    → IsBundleOn (Some files) kept before x → IsBadBundle (Some files) kept before base name fault → base ≡ x.base → name ≡ x.name → fault ≡ Mem
+no_bad_bundle files kept before x base name fault good bad base_is name_is =
+    let P : ℕ → Type 0 = λ n. BundleRefused n bad.text kept before fault in
+    let Q : List ℕ → Type 0 = λ t. BundleRefused x.base t kept before fault in
+    taken_bundle x.base x.text kept before x.block_type x.blocks good.bundle fault
+    (subst Q (one_text files name x.name bad.text x.text bad.there good.there name_is) (subst P base_is bad.refused))
+
+module _ (files : Files) (bundles : List Bundle) (good : IsMerged (Some files) bundles) where
+  -- the same files, listed again
+  merged_same : (others : List Bundle) → IsMerged (Some files) others → map entry_of bundles ≡ map entry_of others
+  merged_same others m = map_turned entry_of bundles others (ordered_same good.names m.names (entries_of bundles) (entries_of others) good.ordered m.ordered (good.listed.all ∙ sym m.listed.all))
+
+  kept_merged : (others : List Bundle) → IsMerged (Some files) others → KeepAlike bundles others
+  kept_merged others m = keep_alike files bundles others good.good m.good (merged_same others m)
+
+  no_fault_merged : (name : List ℕ) (fault : FileFault) → IsFirstInMerged (Some files) name fault → fault ≡ Mem
+  no_fault_merged name fault bad = by_cause bad.first
+    where
+      names_same : good.names ≡ bad.names
+      names_same = good.listed.all ∙ sym bad.listed.all
+
+      by_cause : IsOtherName bad.names name fault ⊎ IsFirstBased (Some files) bad.names name fault → fault ≡ Mem
+      by_cause (inl o) = absurd (no_other_name (map (λ (e : Entry). e.1) o.entries) name o.more good.ordered.found (sym (ap (map merged_base_of) (names_same ∙ o.names_are)) ∙ good.ordered.based.bases) o.other)
+      by_cause (inr b) = no_bad_bundle files (kept_of s.older) (tip_of s.older) s.x b.first.base name fault parts.0 at_older (ap (λ (e : Entry). e.0) (sym s.item)) (ap (λ (e : Entry). e.1) (sym s.item))
+        where
+          s : Split entry_of bundles (b.first.base, name) b.first.bundles
+          s = split_at entry_of bundles b.first.bundles (b.first.base, name) b.first.more (ordered_same good.names bad.names (entries_of bundles) b.entries good.ordered b.ordered names_same ∙ b.first.entries_are)
+
+          parts : AreBundles (Some files) (s.x ∷ s.older)
+          parts = older_bundles (Some files) s.newer s.x s.older (subst (AreBundles (Some files)) s.whole good.good)
+
+          alike : KeepAlike s.older b.first.bundles
+          alike = keep_alike files s.older b.first.bundles parts.1 b.first.good s.same
+
+          at_older : IsBadBundle (Some files) (kept_of s.older) (tip_of s.older) b.first.base name fault
+          at_older =
+              let P : Option (List ℕ) → Type 0 = λ k. IsBadBundle (Some files) k (tip_of b.first.bundles) b.first.base name fault in
+              let Q : Option BlockRef → Type 0 = λ t. IsBadBundle (Some files) (kept_of s.older) t b.first.base name fault in
+              subst Q (sym alike.tip) (subst P (sym alike.kept) b.first.bad)
+
+-- ---- the whole shelf
+
+module _ (files : Files) (report : Report) (good : IsGood (Some files) report) where
+  -- a first fault in `one/`, after the kept type of the good files
+  in_one : (others : List Bundle) (name : List ℕ) (fault : FileFault) → IsMerged (Some files) others → IsFirstInFolder One (Some files) (kept_of others) name fault → fault ≡ Mem
+  in_one others name fault m first =
+      no_fault_in_folder One files (kept_of good.bundles) good.one name fault good.one_folder
+      (subst (λ k. IsFirstInFolder One (Some files) k name fault) (sym (kept_merged files good.bundles good.merged_folder others m).kept) first)
+
+  kept_one : (others : List Bundle) (ones : List Single) → IsMerged (Some files) others → IsFolder One (Some files) (kept_of others) ones → kept_after (kept_of good.bundles) good.one ≡ kept_after (kept_of others) ones
+  kept_one others ones m o =
+      let k = (kept_merged files good.bundles good.merged_folder others m).kept in
+      kept_in One files (kept_of good.bundles) good.one ones good.one_folder (subst (λ t. IsFolder One (Some files) t ones) (sym k) o) ∙ ap (λ t. kept_after t ones) k
+
+  -- and in `forked/`
+  in_forked : (others : List Bundle) (ones : List Single) (name : List ℕ) (fault : FileFault) → IsMerged (Some files) others → IsFolder One (Some files) (kept_of others) ones
+      → IsFirstInFolder Forked (Some files) (kept_after (kept_of others) ones) name fault → fault ≡ Mem
+  in_forked others ones name fault m o first =
+      no_fault_in_folder Forked files (kept_after (kept_of good.bundles) good.one) good.forked name fault good.forked_folder
+      (subst (λ k. IsFirstInFolder Forked (Some files) k name fault) (sym (kept_one others ones m o)) first)
+
+  no_fault : (name : List ℕ) (fault : FileFault) → IsFirstFault (Some files) name fault → fault ≡ Mem
+  no_fault name fault (inl first) = no_fault_merged files good.bundles good.merged_folder name fault first
+  no_fault name fault (inr (inl f)) = in_one f.bundles name fault f.merged_folder f.first
+  no_fault name fault (inr (inr f)) = in_forked f.bundles f.one name fault f.merged_folder f.one_folder f.first
+
+  length_same : {A B : Type 0} (f : A → B) (xs ys : List A) → map f xs ≡ map f ys → length xs ≡ length ys
+  length_same f xs ys e = sym (length-map xs f) ∙ ap length e ∙ length-map ys f
+
+  one_report : (other : Report) → IsGood (Some files) other → other ≡ report
+  one_report other o =
+      o.counts ∙ sym (counts_same (length_same entry_of good.bundles o.bundles bundles_same) alike.count (length_same (λ (x : Single). x.name) good.one o.one ones_same) (length_same (λ (x : Single). x.name) good.forked o.forked forked_same)) ∙ sym good.counts
+    where
+      bundles_same : map entry_of good.bundles ≡ map entry_of o.bundles
+      bundles_same = merged_same files good.bundles good.merged_folder o.bundles o.merged_folder
+
+      alike : KeepAlike good.bundles o.bundles
+      alike = kept_merged files good.bundles good.merged_folder o.bundles o.merged_folder
+
+      ones_same : map (λ x. x.name) good.one ≡ map (λ x. x.name) o.one
+      ones_same = folder_same One files (kept_of good.bundles) good.one o.one good.one_folder (subst (λ t. IsFolder One (Some files) t o.one) (sym alike.kept) o.one_folder)
+
+      forked_same : map (λ x. x.name) good.forked ≡ map (λ x. x.name) o.forked
+      forked_same =
+          folder_same Forked files (kept_after (kept_of good.bundles) good.one) good.forked o.forked good.forked_folder
+          (subst (λ t. IsFolder Forked (Some files) t o.forked) (sym (kept_one o.bundles o.one o.merged_folder o.one_folder)) o.forked_folder)
+
+      counts_same : length good.bundles ≡ length o.bundles → block_count good.bundles ≡ block_count o.bundles → length good.one ≡ length o.one → length good.forked ≡ length o.forked → report_of good.bundles good.one good.forked ≡ report_of o.bundles o.one o.forked
+      counts_same a b c d = rw (a, b, c, d) refl
+
+-- no fault but want of memory is a first fault, so no file is a cause of a refusal
+good_refusal : (files : Files) (report : Report) → IsGood (Some files) report → (before now : ℕ) (fault : LoadFault) → Refused (λ name f. IsFirstFault (Some files) name f) before now fault → Refused (λ name f. ⊥) before now fault
+good_refusal files report good before now (Store store.ShelfFault) r = r
+good_refusal files report good before now (Store (store.ShelfBad name at)) r = let clash = no_fault files report good name (Bad at) r in cc clash
+good_refusal files report good before now (Store (store.Missing name)) r = r
+good_refusal files report good before now (Store (store.StoredOther kept read)) r = r
+good_refusal files report good before now (Store (store.NameClash held offered)) r = r
+good_refusal files report good before now (Store store.Mem) r = tt
+good_refusal files report good before now (KindClash held offered) r = absurd (let clash = no_fault files report good r.0 (OtherType held offered) r.1 in cc clash)
+good_refusal files report good before now (HistoryFull len need) r = r
+
+-- what is answered to a shelf, where it is good
+pub good_answer : (files : Option Files) (before now : ℕ) (result : Result Report LoadFault) → CheckAnswers files before now result → (report : Report) → IsGoodShelf files report → IsReported report before now result
+good_answer None before now result answers report good = absurd good
+good_answer (Some files) before now (Ok found) answers report good = one_report files report good found answers
+good_answer (Some files) before now (Err fault) answers report good = good_refusal files report good before now fault answers
