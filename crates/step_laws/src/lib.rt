@@ -1,0 +1,11 @@
+//! The laws of the steps of a run: the text that `steps` tells of an input is the lines of steps
+//! that a client folds to the path of the head. The functions have no body: the contract of each
+//! is the law.
+#![tactic(auto)]
+
+ghost use Rattle.step_laws.specs.Laws.{StepsTold};
+
+/// The text of a run is the lines of its steps.
+pub fn steps_told()
+    ensures { StepsTold }
+{}
