@@ -3,9 +3,14 @@
 //! is the law.
 #![tactic(auto)]
 
-ghost use Rattle.step_laws.specs.Laws.{StepsTold};
+ghost use Rattle.step_laws.specs.Laws.{StepsTold, StepsFollow};
 
 /// The text of a run is the lines of its steps.
 pub fn steps_told()
     ensures { StepsTold }
+{}
+
+/// The steps of a run lead a client to the head of the world that the run leaves.
+pub fn steps_follow()
+    ensures { StepsFollow }
 {}
