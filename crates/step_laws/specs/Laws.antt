@@ -1,17 +1,20 @@
 -- What a client makes of the steps that are told, as statements.
-use Rattle.std.specs.Prelude.{ℕ, ◌≡◌, ◌<◌, ◌⊎◌, List, [], ◌∷◌, length, map, reverse, Option, None, Some}
+use Rattle.std.specs.Prelude.{ℕ, ◌≡◌, ◌<◌, ◌⊎◌, List, length, map, Option, None, Some}
 use Rattle.std.specs.List.{AllByRecursion}
 use Rattle.block_record.specs.declared.blocks.Slip.{Slip}
 use Rattle.block_record.specs.declared.blocks.BlockRef.{BlockRef}
 use Rattle.chain_model.specs.declared.places.Place.{Place}
 use Rattle.chain_model.specs.Steps.{BlockStep, plain_of}
-use Rattle.chain_model.specs.Places.{PlaceFits}
+use Rattle.chain_model.specs.Finality.{ClaimsAgree}
+use Rattle.chain_model.specs.Places.{PlaceFits, no_place}
 use Rattle.chain_model.specs.Fold.{fold_steps}
-use Rattle.chain_laws.specs.Standing.{stands, IsUnder}
+use Rattle.chain_laws.specs.Standing.{stands, begins, IsUnder}
 use Rattle.relay_model.specs.Worlds.{World}
 use Rattle.relay_model.specs.Soundness.{IsBlock, IsSound}
+use Rattle.relay_model.specs.Runs.{OneEach}
+use Rattle.step_text.specs.Limits.{new_world}
 use Rattle.step_text.specs.StepText.{step_lines, tell}
-use Rattle.step_laws.specs.Telling.{steps_told, world_left, place_left, head_place, at_head}
+use Rattle.step_laws.specs.Telling.{steps_told, world_left, place_left, head_place, at_head, has_head, received_of, order_of}
 
 -- the text that is told of blocks is the lines of the steps that are told of them
 abbrev pub StepsTold : Type 0
@@ -36,3 +39,13 @@ pub record Follows (slips : List Slip) (w : World) (base : Option BlockRef) (pla
 abbrev pub StepsFollow : Type 0
 StepsFollow = (slips : List Slip) (w : World) (base : Option BlockRef) (place : Place) → IsSound w → AllByRecursion IsBlock slips
     → PlaceFits w.history place.end place.lib → IsUnder w.history base place.lib → Follows slips w base place
+
+-- what is asked of the blocks that are brought: among those that are answered Ok each id is of one slip, and the claims of their order from scratch agree
+pub record AreOrderly (first : ℕ) (slips : List Slip) : Type 0 where
+  pub one_each : OneEach (received_of first slips)
+  pub agreed : ClaimsAgree (order_of first slips)
+
+-- then, where no block is refused, all steps together fold to the path of the head of the order from scratch, with as many final blocks as its final path has
+abbrev pub StepsFromScratch : Type 0
+StepsFromScratch = (first : ℕ) (slips : List Slip) → AllByRecursion IsBlock slips → (tell slips (new_world first) no_place).refusal ≡ None → AreOrderly first slips
+    → fold_steps (begins None) (steps_told slips (new_world first) no_place) ≡ Some (has_head (order_of first slips))

@@ -1,5 +1,5 @@
 -- The steps that are told of blocks, and what the blocks leave.
-use Rattle.std.specs.Prelude.{ℕ, List, [], ◌∷◌, ◌++◌, map, length, Option, None, Some}
+use Rattle.std.specs.Prelude.{ℕ, List, [], ◌∷◌, ◌++◌, map, length, reverse, Option, None, Some}
 use Rattle.std.specs.Option.{option_map}
 use Rattle.block_record.specs.declared.blocks.Slip.{Slip}
 use Rattle.block_record.specs.declared.blocks.BlockRef.{BlockRef}
@@ -10,7 +10,10 @@ use Rattle.chain_model.specs.Fold.{FoldState}
 use Rattle.chain_laws.specs.Standing.{after_base}
 use Rattle.relay_model.specs.Worlds.{World}
 use Rattle.relay_model.specs.Offers.{offered}
+use Rattle.relay_model.specs.Runs.{received}
+use Rattle.relay_model.specs.Orders.{linked_order}
 use Rattle.step_text.specs.declared.refusals.Refusal.{Refusal}
+use Rattle.step_text.specs.Limits.{step_limits}
 use Rattle.step_text.specs.StepText.{refusal_of, steps_by, place_by}
 
 -- what comes last: where a block is refused what its offer leaves, else what the blocks after it leave
@@ -55,3 +58,11 @@ at_head newest base = record {
 -- the same of a client that began with nothing: it has the whole path of the head, and as many final blocks as the final path has
 abbrev pub has_head : List Slip → FoldState
 has_head newest = record { base = None; blocks = map ref_of (ancestry_of newest (head newest)); finals = length (final_ancestry newest) }
+
+-- of the blocks that the command is brought in order, those that its relay answers Ok, each once; what was received last is first
+abbrev pub received_of : ℕ → List Slip → List Slip
+received_of first slips = received first 0 step_limits (reverse slips)
+
+-- their order from scratch, which does not speak of a relay; what comes last is first
+abbrev pub order_of : ℕ → List Slip → List Slip
+order_of first slips = linked_order first (received_of first slips)

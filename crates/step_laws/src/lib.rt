@@ -3,7 +3,7 @@
 //! is the law.
 #![tactic(auto)]
 
-ghost use Rattle.step_laws.specs.Laws.{StepsTold, StepsFollow};
+ghost use Rattle.step_laws.specs.Laws.{StepsTold, StepsFollow, StepsFromScratch};
 
 /// The text of a run is the lines of its steps.
 pub fn steps_told()
@@ -13,4 +13,9 @@ pub fn steps_told()
 /// The steps of a run lead a client to the head of the world that the run leaves.
 pub fn steps_follow()
     ensures { StepsFollow }
+{}
+
+/// The steps of a run from nothing lead a client to the head of the order from scratch.
+pub fn steps_from_scratch()
+    ensures { StepsFromScratch }
 {}
