@@ -9,6 +9,7 @@ use Rattle.chain_model.specs.Finality.{ClaimsAgree}
 use Rattle.chain_model.specs.Places.{PlaceFits, no_place}
 use Rattle.chain_model.specs.Fold.{fold_steps}
 use Rattle.chain_laws.specs.Standing.{stands, begins, IsUnder}
+use Rattle.fire_lines.specs.Text.{received}
 use Rattle.relay_model.specs.Worlds.{World}
 use Rattle.relay_model.specs.Soundness.{IsBlock, IsSound}
 use Rattle.relay_model.specs.Runs.{OneEach}
@@ -49,3 +50,7 @@ pub record AreOrderly (first : ℕ) (slips : List Slip) : Type 0 where
 abbrev pub StepsFromScratch : Type 0
 StepsFromScratch = (first : ℕ) (slips : List Slip) → AllByRecursion IsBlock slips → (tell slips (new_world first) no_place).refusal ≡ None → AreOrderly first slips
     → fold_steps (begins None) (steps_told slips (new_world first) no_place) ≡ Some (has_head (order_of first slips))
+
+-- each slip that the lines of a node bring is that of a block: the number of its parent is less, or both are 0
+abbrev pub LinesBringBlocks : Type 0
+LinesBringBlocks = (max : ℕ) (text : List ℕ) → AllByRecursion IsBlock (received max text).slips

@@ -3,7 +3,7 @@
 //! is the law.
 #![tactic(auto)]
 
-ghost use Rattle.step_laws.specs.Laws.{StepsTold, StepsFollow, StepsFromScratch};
+ghost use Rattle.step_laws.specs.Laws.{StepsTold, StepsFollow, StepsFromScratch, LinesBringBlocks};
 
 /// The text of a run is the lines of its steps.
 pub fn steps_told()
@@ -18,4 +18,9 @@ pub fn steps_follow()
 /// The steps of a run from nothing lead a client to the head of the order from scratch.
 pub fn steps_from_scratch()
     ensures { StepsFromScratch }
+{}
+
+/// The blocks that lines bring are blocks.
+pub fn lines_bring_blocks()
+    ensures { LinesBringBlocks }
 {}
