@@ -10,7 +10,9 @@ use Rattle.chain_model.specs.Steps.{head, ref_of, plain_of}
 use Rattle.chain_model.specs.Places.{no_place}
 use Rattle.chain_model.specs.Fold.{FoldState, fold_steps}
 use Rattle.chain_laws.specs.Standing.{stands, begins}
-use Rattle.chain_laws.proofs.Growth.{IsFound}
+use Rattle.chain_laws.proofs.Growth.{IsFound, all_weaker}
+use Rattle.fire_lines.specs.declared.faults.LineFault.{LineFault}
+use Rattle.fire_lines.specs.Text.{received}
 use Rattle.relay_model.specs.declared.answers.Conflict.{Conflict as Clash}
 use Rattle.relay_model.specs.Worlds.{World}
 use Rattle.relay_model.specs.Soundness.{IsBlock, IsSound}
@@ -21,10 +23,12 @@ use Rattle.relay_laws.proofs.RunSteps.{run_of}
 use Rattle.relay_laws.proofs.Scratch.{tip_from_scratch}
 use Rattle.relay_laws.proofs.FromScratch.{from_scratch}
 use Rattle.step_text.specs.declared.refusals.Refusal.{Refusal}
-use Rattle.step_text.specs.Limits.{step_limits, new_world}
-use Rattle.step_text.specs.StepText.{first_clash, refusal_of, steps_by, place_by, goes_on, step_lines, tell}
+use Rattle.step_text.specs.Limits.{line_max, step_limits, new_world}
+use Rattle.step_text.specs.StepText.{first_clash, refusal_of, steps_by, place_by, goes_on, step_lines, tell, whole, ending_of}
 use Rattle.step_laws.specs.Telling.{unless_refused, steps_told, world_left, at_head, has_head, received_of, order_of}
-use Rattle.step_laws.specs.Laws.{AreOrderly, StepsFromScratch}
+use Rattle.step_laws.specs.Laws.{AreOrderly, StepsFromScratch, StepTextFromScratch}
+use Rattle.step_laws.proofs.TextFacts.{steps_told_lines}
+use Rattle.step_laws.proofs.LineFacts.{lines_bring_blocks}
 use Rattle.step_laws.proofs.HeadFacts.{head_found, tip_found, at_head-None}
 use Rattle.step_laws.proofs.FollowFacts.{steps_follow}
 
@@ -115,6 +119,27 @@ steps_from_scratch first slips blocks none o =
     let orderly : IsOrderly first 0 step_limits offers = record { blocks = turned; kept = is.kept; one_each = o.one_each; agreed = o.agreed } in
     let sound = (run_of first 0 step_limits offers turned is.kept o.one_each).sound in
     let newest = (run w0 offers).history in
-    let same = same_head newest (order_of first slips) sound.history (from_scratch first 0 step_limits offers orderly) (tip_from_scratch first 0 step_limits offers orderly) in
-    (steps_follow slips w0 None no_place (new_sound first) blocks tt tt).head (inl refl)
-    ∙ ap (λ w. Some (at_head w.history None)) is.left ∙ ap (λ f. Some f) (at_head-None newest) ∙ ap (λ f. Some f) same
+    let matches = from_scratch first 0 step_limits offers orderly in
+    let same = same_head newest (order_of first slips) sound.history matches (tip_from_scratch first 0 step_limits offers orderly) in
+    let follows = steps_follow slips w0 None no_place (new_sound first) blocks tt tt in
+    let held : AllByRecursion (λ x. IsFound newest x.slip) (steps_told slips w0 no_place) =
+    subst (λ (w : World). AllByRecursion (λ x. IsFound w.history x.slip) (steps_told slips w0 no_place)) is.left follows.held in
+    record {
+      blocks = all_weaker (λ x. IsFound newest x.slip) (λ x. IsFound (order_of first slips) x.slip) (λ x found. matches.within x.slip found) (steps_told slips w0 no_place) held;
+      fold = follows.head (inl refl) ∙ ap (λ w. Some (at_head w.history None)) is.left ∙ ap (λ f. Some f) (at_head-None newest) ∙ ap (λ f. Some f) same;
+    }
+
+-- a text that nothing ended was not refused
+whole_told : (r : Option Refusal) (fault : Option LineFault) → ending_of r fault ≡ whole → r ≡ None
+whole_told (Some r) fault e = absurd (cc)
+whole_told None fault e = refl
+
+pub step_text_from_scratch : StepTextFromScratch
+step_text_from_scratch first input ended o =
+    let slips = (received line_max input).slips in
+    let told = tell slips (new_world first) no_place in
+    record {
+      steps = steps_told slips (new_world first) no_place;
+      lines = steps_told_lines slips (new_world first) no_place;
+      leads = steps_from_scratch first slips (lines_bring_blocks line_max input) (whole_told told.refusal (received line_max input).fault ended) o;
+    }

@@ -5,6 +5,7 @@ use Rattle.block_record.specs.declared.blocks.Slip.{Slip}
 use Rattle.block_record.specs.declared.blocks.BlockRef.{BlockRef}
 use Rattle.chain_model.specs.declared.places.Place.{Place}
 use Rattle.chain_model.specs.Steps.{BlockStep, plain_of}
+use Rattle.chain_model.specs.Ancestry.{find_id}
 use Rattle.chain_model.specs.Finality.{ClaimsAgree}
 use Rattle.chain_model.specs.Places.{PlaceFits, no_place}
 use Rattle.chain_model.specs.Fold.{fold_steps}
@@ -13,8 +14,8 @@ use Rattle.fire_lines.specs.Text.{received}
 use Rattle.relay_model.specs.Worlds.{World}
 use Rattle.relay_model.specs.Soundness.{IsBlock, IsSound}
 use Rattle.relay_model.specs.Runs.{OneEach}
-use Rattle.step_text.specs.Limits.{new_world}
-use Rattle.step_text.specs.StepText.{step_lines, tell}
+use Rattle.step_text.specs.Limits.{line_max, new_world}
+use Rattle.step_text.specs.StepText.{whole, step_lines, step_text, tell}
 use Rattle.step_laws.specs.Telling.{steps_told, world_left, place_left, head_place, at_head, has_head, received_of, order_of}
 
 -- the text that is told of blocks is the lines of the steps that are told of them
@@ -30,9 +31,11 @@ pub record Follows (slips : List Slip) (w : World) (base : Option BlockRef) (pla
   -- all steps together have a fold, and it leads to the place that is left
   pub fold : fold_steps (stands w.history base place) (steps_told slips w place)
       ≡ Some (stands (world_left slips w).history base (place_left slips w place))
-  -- that place fits
+  -- each step is of a block of the history that is left
+  pub held : AllByRecursion (λ x. find_id (world_left slips w).history x.slip.id ≡ Some x.slip) (steps_told slips w place)
+  -- the place fits it
   pub fits : PlaceFits (world_left slips w).history (place_left slips w place).end (place_left slips w place).lib
-  -- and it is the head of the world that is left, with the final path counted
+  -- where the client is brought to the head, it has the path of the head, with the final path counted
   pub head : IsBrought slips w place
       → fold_steps (stands w.history base place) (steps_told slips w place) ≡ Some (at_head (world_left slips w).history base)
 
@@ -46,11 +49,27 @@ pub record AreOrderly (first : ℕ) (slips : List Slip) : Type 0 where
   pub one_each : OneEach (received_of first slips)
   pub agreed : ClaimsAgree (order_of first slips)
 
--- then, where no block is refused, all steps together fold to the path of the head of the order from scratch, with as many final blocks as its final path has
+-- steps lead a client that began with nothing to the head of an order: each is of a block of the order, and all together fold to the path of its head, with as many final blocks as its final path has
+pub record LeadToHead (steps : List BlockStep) (order : List Slip) : Type 0 where
+  pub blocks : AllByRecursion (λ x. find_id order x.slip.id ≡ Some x.slip) steps
+  pub fold : fold_steps (begins None) steps ≡ Some (has_head order)
+
+-- then, where no block is refused, the steps that are told lead to the head of the order from scratch
 abbrev pub StepsFromScratch : Type 0
 StepsFromScratch = (first : ℕ) (slips : List Slip) → AllByRecursion IsBlock slips → (tell slips (new_world first) no_place).refusal ≡ None → AreOrderly first slips
-    → fold_steps (begins None) (steps_told slips (new_world first) no_place) ≡ Some (has_head (order_of first slips))
+    → LeadToHead (steps_told slips (new_world first) no_place) (order_of first slips)
 
 -- each slip that the lines of a node bring is that of a block: the number of its parent is less, or both are 0
 abbrev pub LinesBringBlocks : Type 0
 LinesBringBlocks = (max : ℕ) (text : List ℕ) → AllByRecursion IsBlock (received max text).slips
+
+-- a text is the lines of steps that lead to the head of an order
+pub record TellsHead (text : List ℕ) (order : List Slip) : Type 0 where
+  pub steps : List BlockStep
+  pub lines : text ≡ step_lines (map plain_of steps)
+  pub leads : LeadToHead steps order
+
+-- the step text of an input that no refusal and no bad line ended leads to the head of the order from scratch of its blocks
+abbrev pub StepTextFromScratch : Type 0
+StepTextFromScratch = (first : ℕ) (input : List ℕ) → (step_text first input).ending ≡ whole → AreOrderly first (received line_max input).slips
+    → TellsHead (step_text first input).text (order_of first (received line_max input).slips)

@@ -3,7 +3,7 @@
 //! is the law.
 #![tactic(auto)]
 
-ghost use Rattle.step_laws.specs.Laws.{StepsTold, StepsFollow, StepsFromScratch, LinesBringBlocks};
+ghost use Rattle.step_laws.specs.Laws.{StepsTold, StepsFollow, StepsFromScratch, LinesBringBlocks, StepTextFromScratch};
 
 /// The text of a run is the lines of its steps.
 pub fn steps_told()
@@ -23,4 +23,9 @@ pub fn steps_from_scratch()
 /// The blocks that lines bring are blocks.
 pub fn lines_bring_blocks()
     ensures { LinesBringBlocks }
+{}
+
+/// The step text of a whole input leads a client to the head of the order from scratch.
+pub fn step_text_from_scratch()
+    ensures { StepTextFromScratch }
 {}
