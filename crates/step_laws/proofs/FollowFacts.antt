@@ -1,16 +1,16 @@
 -- The steps of a run lead a client to the head.
-use Rattle.std.proofs.Common.{arith, ◌≡◌, ◌<◌, ◌≤◌, ◌⊎◌, inl, inr, ℕ, List, [], ◌∷◌, ◌++◌, length, Option, Some, None, refl, sym, ◌∙◌, ap, subst}
+use Rattle.std.proofs.Common.{arith, ◌≡◌, ◌<◌, ◌⊎◌, inl, inr, List, [], ◌∷◌, ◌++◌, length, Option, Some, None, refl, sym, ◌∙◌, ap, subst}
 use Rattle.std.specs.List.{AllByRecursion}
-use Rattle.std.proofs.lemmas.List.{append-nil, length-append}
+use Rattle.std.proofs.lemmas.List.{append-nil}
 use mathlib.Core.List.{IsSuffix, IsSuffix-trans}
 use Rattle.block_record.specs.declared.blocks.Slip.{Slip}
 use Rattle.block_record.specs.declared.blocks.BlockRef.{BlockRef}
 use Rattle.chain_model.specs.declared.places.Place.{Place}
 use Rattle.chain_model.specs.declared.places.Mode.TheVariants as mode
-use Rattle.chain_model.specs.Ancestry.{has_id, ancestry, IsHistory}
+use Rattle.chain_model.specs.Ancestry.{has_id, IsHistory}
 use Rattle.chain_model.specs.Finality.{ClaimsAgree}
 use Rattle.chain_model.specs.Steps.{BlockStep, steps_of, target, place_after}
-use Rattle.chain_model.specs.Places.{PlaceFits, BlocksFit, place_to}
+use Rattle.chain_model.specs.Places.{PlaceFits, place_to}
 use Rattle.chain_model.specs.Fold.{FoldState, fold_steps, after_step}
 use Rattle.chain_laws.specs.Standing.{stands, IsUnder}
 use Rattle.chain_laws.proofs.Lines.{some_and, has_id-find_id}
@@ -27,7 +27,7 @@ use Rattle.relay_model.proofs.Sound.{first_intake, offer_keeps}
 use Rattle.step_text.specs.declared.refusals.Refusal.{Refusal}
 use Rattle.step_text.specs.StepText.{refusal_of, steps_by, place_by}
 use Rattle.step_laws.specs.Telling.{unless_refused, steps_told, world_left, place_left, head_place, at_head}
-use Rattle.step_laws.specs.Laws.{IsBrought, Follows, StepsFollow}
+use Rattle.step_laws.specs.Laws.{StepsFollow}
 use Rattle.step_laws.proofs.HeadFacts.{place_at_head, stands_at_head}
 
 -- a fold of steps that go on

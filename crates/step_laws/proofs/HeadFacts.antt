@@ -1,16 +1,15 @@
 -- The place at the head of a history.
-use Rattle.std.proofs.Common.{arith, ◌≡◌, ◌≤◌, inl, inr, ℕ, Bool, true, false, not, cond, List, [], ◌∷◌, Option, Some, None, refl, sym, ◌∙◌, ap, subst}
+use Rattle.std.proofs.Common.{arith, ◌≡◌, ◌≤◌, inl, inr, Bool, true, false, not, cond, List, [], ◌∷◌, Option, Some, None, refl, sym, ◌∙◌, ap, subst}
 use Rattle.std.specs.List.{AllByRecursion, filter, find}
 use Rattle.std.specs.Option.{option_map}
 use Rattle.std.proofs.lemmas.Bool.{both_ways}
 use Rattle.chain_laws.proofs.Lines.{is_above}
 use Rattle.block_record.specs.declared.blocks.Slip.{Slip}
 use Rattle.block_record.specs.declared.blocks.BlockRef.{BlockRef}
-use Rattle.chain_model.specs.declared.places.Place.{Place}
 use Rattle.chain_model.specs.declared.places.Mode.TheVariants as mode
-use Rattle.chain_model.specs.Ancestry.{find_id, has_id, ancestry, IsHistory}
+use Rattle.chain_model.specs.Ancestry.{has_id, ancestry, IsHistory}
 use Rattle.chain_model.specs.Finality.{ancestry_of, greatest, final_tip, final_ancestry}
-use Rattle.chain_model.specs.Steps.{ref_of, drop_while, ancestry_at, keep_while, holds_tip, head, target}
+use Rattle.chain_model.specs.Steps.{ref_of, drop_while, ancestry_at, holds_tip, head, target}
 use Rattle.chain_laws.specs.Standing.{first_of, place_at_end, stands, after_base}
 use Rattle.chain_laws.proofs.Growth.{IsFound, all_found, greater_cases, tip_claimed, claim_found}
 use Rattle.chain_laws.proofs.Reach.{IsLine, drop_line, head_is_found, has_id-drop_by_id, first_fails}

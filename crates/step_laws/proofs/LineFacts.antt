@@ -1,5 +1,5 @@
 -- The blocks that lines bring are blocks.
-use Rattle.std.proofs.Common.{arith, ◌≡◌, inl, inr, ℕ, Bool, true, false, List, [], ◌∷◌, ◌++◌, length, Option, Some, None, Result, Ok, Err, refl, sym, ◌∙◌, ap, subst, option_and_then, codes, cond, drop}
+use Rattle.std.proofs.Common.{arith, ◌≡◌, inl, inr, ℕ, Bool, true, false, List, [], ◌∷◌, length, Option, Some, None, Result, Ok, Err, refl, sym, ◌∙◌, ap, subst, option_and_then, codes, cond, drop}
 use Rattle.std.specs.Prelude.{slice_get, nat_lt, if◌then◌else◌}
 use Rattle.std.specs.List.{AllByRecursion}
 use Rattle.std.specs.Option.{ok_or, is_some}
@@ -15,7 +15,7 @@ use Rattle.fire_lines.specs.declared.faults.LineFault.TheVariants.{TooLong, BadI
 use Rattle.fire_lines.specs.Parts.{parts, words, without_cr}
 use Rattle.fire_lines.specs.Fields.{field, id_of, parent_num_of, payload_of, slip_of_fields, at_line, ◌>>=◌}
 use Rattle.fire_lines.specs.Line.{Saying, passes, opens, brings, is_bad, kind_of, init_says, fields_say, block_says, words_say, is_fire, says}
-use Rattle.fire_lines.specs.Text.{Received, then_receive, next_line, receive, received}
+use Rattle.fire_lines.specs.Text.{Received, then_receive, next_line, receive}
 use Rattle.fire_lines.proofs.FieldFacts.{after_num, after_id, after_parent_num, after_parent_id, after_lib_num, after_time, after_payload, none_read}
 use Rattle.relay_model.specs.Soundness.{IsBlock}
 use Rattle.step_laws.specs.Laws.{LinesBringBlocks}

@@ -1,11 +1,8 @@
 -- The text of a run is the lines of its steps.
-use Rattle.std.proofs.Common.{◌≡◌, ℕ, List, [], ◌∷◌, ◌++◌, map, Option, Some, None, refl, sym, ◌∙◌, ap}
+use Rattle.std.proofs.Common.{◌≡◌, List, [], ◌∷◌, ◌++◌, map, Option, Some, None, refl, sym, ◌∙◌, ap}
 use Rattle.std.proofs.lemmas.List.{append-nil, map-append}
 use Rattle.std.proofs.lemmas.List.Concat.{flat_map-append}
-use Rattle.block_record.specs.declared.blocks.Slip.{Slip}
-use Rattle.chain_model.specs.declared.places.Place.{Place}
 use Rattle.chain_model.specs.Steps.{BlockStep, plain_of}
-use Rattle.relay_model.specs.Worlds.{World}
 use Rattle.relay_model.specs.Offers.{offered}
 use Rattle.step_text.specs.declared.refusals.Refusal.{Refusal}
 use Rattle.step_text.specs.StepText.{Told, step_line, step_lines, goes_on, tell, refusal_of, steps_by, place_by}

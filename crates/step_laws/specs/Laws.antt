@@ -1,5 +1,5 @@
 -- What a client makes of the steps that are told, as statements.
-use Rattle.std.specs.Prelude.{ℕ, ◌≡◌, ◌<◌, ◌⊎◌, List, length, map, Option, None, Some}
+use Rattle.std.specs.Prelude.{ℕ, ◌≡◌, ◌<◌, ◌⊎◌, List, length, map, reverse, Option, None, Some}
 use Rattle.std.specs.List.{AllByRecursion}
 use Rattle.block_record.specs.declared.blocks.Slip.{Slip}
 use Rattle.block_record.specs.declared.blocks.BlockRef.{BlockRef}
@@ -13,10 +13,11 @@ use Rattle.chain_laws.specs.Standing.{stands, begins, IsUnder}
 use Rattle.fire_lines.specs.Text.{received}
 use Rattle.relay_model.specs.Worlds.{World}
 use Rattle.relay_model.specs.Soundness.{IsBlock, IsSound}
+use Rattle.relay_model.specs.Orders.{once, linked_order}
 use Rattle.relay_model.specs.Runs.{OneEach}
-use Rattle.step_text.specs.Limits.{line_max, new_world}
+use Rattle.step_text.specs.Limits.{new_world}
 use Rattle.step_text.specs.StepText.{whole, step_lines, step_text, tell}
-use Rattle.step_laws.specs.Telling.{steps_told, world_left, place_left, head_place, at_head, has_head, received_of, order_of}
+use Rattle.step_laws.specs.Telling.{steps_told, world_left, place_left, head_place, at_head, has_head, received_of, blocks_of}
 
 -- the text that is told of blocks is the lines of the steps that are told of them
 abbrev pub StepsTold : Type 0
@@ -27,7 +28,7 @@ abbrev pub IsBrought : List Slip → World → Place → Type 0
 IsBrought slips w place = (place ≡ head_place w.history) ⊎ (length w.history < length (world_left slips w).history)
 
 -- what a client makes of the steps that are told of blocks, from the place where it stands
-pub record Follows (slips : List Slip) (w : World) (base : Option BlockRef) (place : Place) : Type 0 where
+pub record FollowsHead (slips : List Slip) (w : World) (base : Option BlockRef) (place : Place) : Type 0 where
   -- all steps together have a fold, and it leads to the place that is left
   pub fold : fold_steps (stands w.history base place) (steps_told slips w place)
       ≡ Some (stands (world_left slips w).history base (place_left slips w place))
@@ -42,22 +43,26 @@ pub record Follows (slips : List Slip) (w : World) (base : Option BlockRef) (pla
 -- so it is from each sound world, place that fits and base on the path of its lib
 abbrev pub StepsFollow : Type 0
 StepsFollow = (slips : List Slip) (w : World) (base : Option BlockRef) (place : Place) → IsSound w → AllByRecursion IsBlock slips
-    → PlaceFits w.history place.end place.lib → IsUnder w.history base place.lib → Follows slips w base place
+    → PlaceFits w.history place.end place.lib → IsUnder w.history base place.lib → FollowsHead slips w base place
 
--- what is asked of the blocks that are brought: among those that are answered Ok each id is of one slip, and the claims of their order from scratch agree
-pub record AreOrderly (first : ℕ) (slips : List Slip) : Type 0 where
-  pub one_each : OneEach (received_of first slips)
-  pub agreed : ClaimsAgree (order_of first slips)
+-- what is asked of received blocks, of which the last is first: each id is of one slip, and the claims of their order from scratch agree
+pub record AreOrderly (first : ℕ) (blocks : List Slip) : Type 0 where
+  pub one_each : OneEach blocks
+  pub agreed : ClaimsAgree (linked_order first blocks)
 
 -- steps lead a client that began with nothing to the head of an order: each is of a block of the order, and all together fold to the path of its head, with as many final blocks as its final path has
 pub record LeadToHead (steps : List BlockStep) (order : List Slip) : Type 0 where
   pub blocks : AllByRecursion (λ x. find_id order x.slip.id ≡ Some x.slip) steps
   pub fold : fold_steps (begins None) steps ≡ Some (has_head order)
 
--- then, where no block is refused, the steps that are told lead to the head of the order from scratch
+-- where no block is refused, the steps that are told lead to the head of the order from scratch of what is received
 abbrev pub StepsFromScratch : Type 0
-StepsFromScratch = (first : ℕ) (slips : List Slip) → AllByRecursion IsBlock slips → (tell slips (new_world first) no_place).refusal ≡ None → AreOrderly first slips
-    → LeadToHead (steps_told slips (new_world first) no_place) (order_of first slips)
+StepsFromScratch = (first : ℕ) (slips : List Slip) → AllByRecursion IsBlock slips → (tell slips (new_world first) no_place).refusal ≡ None
+    → AreOrderly first (received_of first slips) → LeadToHead (steps_told slips (new_world first) no_place) (linked_order first (received_of first slips))
+
+-- and then all blocks that are brought are received
+abbrev pub AllAreReceived : Type 0
+AllAreReceived = (first : ℕ) (slips : List Slip) → (tell slips (new_world first) no_place).refusal ≡ None → received_of first slips ≡ once (reverse slips)
 
 -- each slip that the lines of a node bring is that of a block: the number of its parent is less, or both are 0
 abbrev pub LinesBringBlocks : Type 0
@@ -69,7 +74,7 @@ pub record TellsHead (text : List ℕ) (order : List Slip) : Type 0 where
   pub lines : text ≡ step_lines (map plain_of steps)
   pub leads : LeadToHead steps order
 
--- the step text of an input that no refusal and no bad line ended leads to the head of the order from scratch of its blocks
+-- the step text of an input that no refusal and no bad line ended leads to the head of the order from scratch of the input's blocks
 abbrev pub StepTextFromScratch : Type 0
-StepTextFromScratch = (first : ℕ) (input : List ℕ) → (step_text first input).ending ≡ whole → AreOrderly first (received line_max input).slips
-    → TellsHead (step_text first input).text (order_of first (received line_max input).slips)
+StepTextFromScratch = (first : ℕ) (input : List ℕ) → (step_text first input).ending ≡ whole → AreOrderly first (blocks_of input)
+    → TellsHead (step_text first input).text (linked_order first (blocks_of input))

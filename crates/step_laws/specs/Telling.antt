@@ -8,12 +8,13 @@ use Rattle.chain_model.specs.Finality.{ancestry_of, final_tip, final_ancestry}
 use Rattle.chain_model.specs.Steps.{BlockStep, head, ref_of}
 use Rattle.chain_model.specs.Fold.{FoldState}
 use Rattle.chain_laws.specs.Standing.{after_base}
+use Rattle.fire_lines.specs.Text.{received as read}
 use Rattle.relay_model.specs.Worlds.{World}
 use Rattle.relay_model.specs.Offers.{offered}
 use Rattle.relay_model.specs.Runs.{received}
-use Rattle.relay_model.specs.Orders.{linked_order}
+use Rattle.relay_model.specs.Orders.{once}
 use Rattle.step_text.specs.declared.refusals.Refusal.{Refusal}
-use Rattle.step_text.specs.Limits.{step_limits}
+use Rattle.step_text.specs.Limits.{line_max, step_limits}
 use Rattle.step_text.specs.StepText.{refusal_of, steps_by, place_by}
 
 -- what comes last: where a block is refused what its offer leaves, else what the blocks after it leave
@@ -63,6 +64,6 @@ has_head newest = record { base = None; blocks = map ref_of (ancestry_of newest 
 abbrev pub received_of : ℕ → List Slip → List Slip
 received_of first slips = received first 0 step_limits (reverse slips)
 
--- their order from scratch, which does not speak of a relay; what comes last is first
-abbrev pub order_of : ℕ → List Slip → List Slip
-order_of first slips = linked_order first (received_of first slips)
+-- all blocks of an input before its first bad line, each once; the last is first
+abbrev pub blocks_of : List ℕ → List Slip
+blocks_of input = once (reverse (read line_max input).slips)

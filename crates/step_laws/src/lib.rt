@@ -3,7 +3,14 @@
 //! is the law.
 #![tactic(auto)]
 
-ghost use Rattle.step_laws.specs.Laws.{StepsTold, StepsFollow, StepsFromScratch, LinesBringBlocks, StepTextFromScratch};
+ghost use Rattle.step_laws.specs.Laws.{
+  StepsTold,
+  StepsFollow,
+  StepsFromScratch,
+  AllAreReceived,
+  LinesBringBlocks,
+  StepTextFromScratch,
+};
 
 /// The text of a run is the lines of its steps.
 pub fn steps_told()
@@ -18,6 +25,11 @@ pub fn steps_follow()
 /// The steps of a run from nothing lead a client to the head of the order from scratch.
 pub fn steps_from_scratch()
     ensures { StepsFromScratch }
+{}
+
+/// Where no block of a run is refused, all are received.
+pub fn all_are_received()
+    ensures { AllAreReceived }
 {}
 
 /// The blocks that lines bring are blocks.
