@@ -23,7 +23,7 @@ use Rattle.block_relay.specs.declared.payloads.Payloads.TheVariants as payloads
 use Rattle.block_relay.specs.declared.marks.Mark.TheVariants as mark
 use Rattle.block_relay.specs.Chronicle.{IsKept, Told, entries_by, has_kind_mark, kind_entry, kind_mark, world_told}
 use Rattle.block_relay.specs.Judged.{HasParts}
-use Rattle.block_relay.specs.Taking.{HasLimits, intake_from}
+use Rattle.block_relay.specs.Taking.{Dropping, HasLimits, intake_from}
 use Rattle.relay_model.proofs.Intakes.{taking_grows}
 
 abbrev pub told : List Entry → List Clash → Told
@@ -245,15 +245,19 @@ pub admission_kind : (kept root : Option NodeKind) (ms : List Mark) (n : ℕ) �
 admission_kind kept None ms n none e = admitted_kind n ms ∙ none e
 admission_kind kept (Some k) ms n none e = absurd (grind (arith, e))
 
+-- what follows an admission hangs on the history and on what waits alone
+pub intake_same : (w : World) (h room : List Slip) (s : Slip) → w.history ≡ h → w.waiting ≡ room → intake w s ≡ intake_from h room s
+intake_same w h room s eh er = rw (eh, er) refl
+
 -- a block that is admitted, with all that follows
-pub admits : (es : List Entry) (cs : List Clash) (db after : Forks) (room left : Room) (kept : Option NodeKind) (shut : Bool) (first run : ℕ) (s : Slip) → IsKept (world_told (told es cs)) db room kept shut first run
+pub admits : (es : List Entry) (cs : List Clash) (db after : Forks) (room left : Room) (drops spent : Dropping) (kept : Option NodeKind) (shut : Bool) (first run : ℕ) (s : Slip) → IsKept (world_told (told es cs)) db room kept shut first run
     → judge (world_told (told es cs)) s ≡ Takes → IsBlock s
-    → after.history ≡ (intake_from db.history room.waiting s).history → left.waiting ≡ purged after.history (intake_from db.history room.waiting s).waiting → HasLimits db room after left
+    → after.history ≡ (intake_from db.history room.waiting s).history → left.waiting ≡ purged after.history (intake_from db.history room.waiting s).waiting → HasLimits db room drops after left spent
     → IsKept (world_told (told (added_by (world_told (told es cs)) s Takes ++ es) (world_by (world_told (told es cs)) s Takes).conflicts)) after left (kind_after kept db.history) shut first run
-admits es cs db after room left kept shut first run s k e block h r limits =
+admits es cs db after room left drops spent kept shut first run s k e block h r limits =
     let w = world_told (told es cs) in
     let d = intake_from db.history room.waiting s in
-    let same : intake w s ≡ d = rw (k.parts.history, k.parts.waiting) refl in
+    let same = intake_same w db.history room.waiting s k.parts.history k.parts.waiting in
     let brought : world_told (told (added_by w s Takes ++ es) (world_by w s Takes).conflicts) ≡ world_by w s Takes =
     subst (λ v. world_told (told (added_by w s v ++ es) (world_by w s v).conflicts) ≡ world_by w s v) e (told_offered es cs s k.sound block) in
     subst (λ (v : World). IsKept v after left (kind_after kept db.history) shut first run) (sym brought) (record {

@@ -309,7 +309,7 @@ impl Relay {
             Judged::Shut => Err(OfferFault::Closed { len: self.db.len() }),
             Judged::Repeats => Ok(Offered::Duplicate),
             Judged::Clashes(kind, held) => {
-                let held = held.clone()?;
+                let held = copy_slip(held)?;
                 self.refuse(kind, held, slip)
             }
             Judged::TooEarly => Ok(Offered::Early),
@@ -335,8 +335,8 @@ impl Relay {
     {
         let told = Conflict {
             kind,
-            held: held.clone()?,
-            offered: offered.clone()?,
+            held: copy_slip(&held)?,
+            offered: copy_slip(&offered)?,
         };
         self.note(kind, held, offered)?;
         Err(OfferFault::Conflict(told))
@@ -366,7 +366,7 @@ impl Relay {
         requires waits { judge_in (world_told self.old) slip ≡ Waits }
         ensures { IsDone Waits slip self.old self.new result }
     {
-        let kept = slip.clone()?;
+        let kept = copy_slip(&slip)?;
         reserve_waiting(&mut self.waited, &mut self.marks)?;
         self.room.put(slip, block)?;
         self.waited.push_reserved(kept);
@@ -411,6 +411,13 @@ fn kind_clash(held: &Kind, offered: &Kind) -> KindFault
         Ok((held, offered)) => KindFault::KindClash { held, offered },
         Err(_) => KindFault::Mem,
     }
+}
+
+fn copy_slip(slip: &Slip) -> Result<Slip, AllocError>
+    ensures { IfOk result (λ s. s ≡ slip.now) }
+{
+    let copied = slip.clone()?;
+    Ok(copied)
 }
 
 fn copy_kind(kind: &Kind) -> Result<Kind, AllocError>

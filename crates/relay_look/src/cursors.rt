@@ -7,9 +7,7 @@ ghost use Rattle.chain_model.specs.Ancestry.{find_id, has_id};
 ghost use Rattle.relay_look.specs.Answers.{seen_misfit};
 ghost use Rattle.relay_model.specs.Looks.{end_fits as end_fits_in, ends_at_parent as ends_at_parent_in, id_of, is_ahead as is_ahead_in, lib_fits as lib_fits_in, misfit as misfit_in, shape_holds as shape_holds_in, unknown as unknown_in};
 
-use crate::paths::{
-    is_final, is_held, is_known, is_on_path, is_parent, is_ref, place_in,
-};
+use crate::paths::{is_final, is_held, is_known, is_on_path, is_parent, is_ref, place_in};
 use block_record::{BlockRef, Id};
 use chain_model::{Place, Step};
 use fork_db::ForkDb;

@@ -26,7 +26,7 @@ admit-requires-clause-can c =
       parts = (reserved w t.db c.make_room.new.db t.room t.kind t.closed t.first t.run k c.make_room.ensures.history c.make_room.ensures.limit).parts;
       sound = k.sound;
       block = c.requires.block;
-      takes = takes_rule w s t.db t.room t.kind t.closed t.first t.run k rule c.in_ok-follow.ensures.limited;
+      takes = takes_rule w s t.db t.room t.kind t.closed t.first t.run k rule (λ less. absurd (grind (arith, c.in_ok-follow.ensures.limited less)));
     }
 
 pub overflow_sub-count : goal.overflow_sub-count
@@ -56,7 +56,7 @@ invariant_of-self-2 c =
     let w = world_told (told es cs) in
     let k = c.self.invariant.0 in
     let rule = subst (λ (v : Told). judge (world_told v) s ≡ judge_limit (world_told v) s) (sym c.self.view_is) c.requires.links in
-    let takes = takes_rule w s t.db t.room t.kind t.closed t.first t.run k rule c.in_ok-follow.ensures.limited in
+    let takes = takes_rule w s t.db t.room t.kind t.closed t.first t.run k rule (λ less. absurd (grind (arith, c.in_ok-follow.ensures.limited less))) in
     let more = reserved w t.db c.make_room.new.db t.room t.kind t.closed t.first t.run k c.make_room.ensures.history c.make_room.ensures.limit in
     let done = admits es cs c.make_room.new.db c.admit.new.db t.room c.admit.new.room _ _ t.kind t.closed t.first t.run s more takes c.requires.block c.admit.ensures.history c.admit.ensures.waiting c.admit.ensures.limits in
     let is : c.admit.new.db.history ≡ (intake_from h t.room.waiting s).history = c.admit.ensures.history ∙ ap (λ (l : List Slip). (intake_from l t.room.waiting s).history) c.make_room.ensures.history in
@@ -94,7 +94,7 @@ returns c =
     let w = world_told (told es cs) in
     let k = c.self.invariant.0 in
     let rule = subst (λ (v : Told). judge (world_told v) s ≡ judge_limit (world_told v) s) (sym c.self.view_is) c.requires.links in
-    let takes = takes_rule w s t.db t.room t.kind t.closed t.first t.run k rule c.in_ok-follow.ensures.limited in
+    let takes = takes_rule w s t.db t.room t.kind t.closed t.first t.run k rule (λ less. absurd (grind (arith, c.in_ok-follow.ensures.limited less))) in
     let is : c.admit.new.db.history ≡ (intake_from h t.room.waiting s).history = c.admit.ensures.history ∙ ap (λ (l : List Slip). (intake_from l t.room.waiting s).history) c.make_room.ensures.history in
     let b = brings h t.room.waiting s in
     let n = c.len.result - c.len-from.result in

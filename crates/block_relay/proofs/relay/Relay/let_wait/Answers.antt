@@ -31,7 +31,7 @@ invariant_of-self-2 c =
     let ms : reverse c.push_reserved-2.new.self.items ≡ mark.Waited ∷ reverse t.marks.items =
     ap reverse (c.push_reserved-2.ensures.items ∙ ap (λ l. l ++ mark.Waited ∷ []) c.reserve_waiting.ensures.marks) ∙ marks_push t.marks.items mark.Waited in
     let ws : reverse c.push_reserved.new.self.items ≡ s ∷ reverse t.waited.items =
-    ap reverse (c.push_reserved.ensures.items ∙ ap (λ l. l ++ c.in_ok-kept.kept ∷ []) c.reserve_waiting.ensures.waited) ∙ slips_push t.waited.items c.in_ok-kept.kept ∙ ap (λ x. x ∷ reverse t.waited.items) c.in_ok-kept.ensures.cases in
+    ap reverse (c.push_reserved.ensures.items ∙ ap (λ l. l ++ c.in_ok-kept.kept ∷ []) c.reserve_waiting.ensures.waited) ∙ slips_push t.waited.items c.in_ok-kept.kept ∙ ap (λ x. x ∷ reverse t.waited.items) c.in_ok-kept.ensures in
     let kept = waits es (reverse t.conflicts.items) t.db t.room t.kind t.closed t.first t.run s b c.self.invariant.0 rule c.requires.block in (
       rw (ms, ws, c.in_ok-put.ensures.ok) kept,
       λ _. omega (arith, c.in_ok-reserve_waiting.ensures.ok.1, c.push_reserved-2.ensures.len, c.push_reserved-2.ensures.capacity),
