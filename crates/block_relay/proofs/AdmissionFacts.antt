@@ -1,5 +1,5 @@
 -- The entries and the conflicts that an admission leaves, as the relay keeps them.
-use Rattle.std.proofs.Common.{arith, ◌≡◌, ◌<◌, ◌≤◌, ◌+◌, ◌-◌, ◌++◌, ◌∷◌, ℕ, Bool, true, false, inl, inr, ltb, List, [], length, map, take, reverse, replicate, Option, None, is_some, refl, sym, ◌∙◌, ap, subst, cond, leb}
+use Rattle.std.proofs.Common.{arith, ◌≡◌, ◌<◌, ◌≤◌, ◌+◌, ◌-◌, ◌++◌, ℕ, Bool, true, false, inl, inr, ltb, List, length, map, take, reverse, replicate, Option, None, is_some, refl, sym, ◌∙◌, ap, leb}
 use Rattle.std.specs.Option.{option_or}
 use Rattle.std.proofs.Math.Seq.{take-append_seam}
 use Rattle.std.proofs.lemmas.Bool.{cases_Bool, le-leb, ltb-false, ltb-true}

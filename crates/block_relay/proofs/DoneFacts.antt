@@ -1,5 +1,5 @@
 -- What an offer leaves, verdict by verdict.
-use Rattle.std.proofs.Common.{arith, ◌≡◌, ◌++◌, ℕ, Bool, true, false, List, [], ◌∷◌, Result, Ok, Err, refl, sym, ◌∙◌, ap, subst}
+use Rattle.std.proofs.Common.{arith, ◌≡◌, ◌++◌, false, List, [], Result, Err, refl, sym, ◌∙◌, ap, subst}
 use Rattle.block_record.specs.declared.blocks.Slip.{Slip}
 use Rattle.relay_model.specs.declared.answers.Conflict.{Conflict as Clash}
 use Rattle.relay_model.specs.Offers.{Verdict, answer_by, offered, judge, world_by}
@@ -44,3 +44,16 @@ done_world s old new result d sound block ok =
   where
     parts : (t : Told) (es : List Entry) (cs : List Clash) → t.entries ≡ es → t.conflicts ≡ cs → world_told t ≡ world_told (record { entries = es; conflicts = cs; payloads = t.payloads })
     parts t es cs e f = rw (← e, ← f) refl
+
+-- an answer that changes what is told
+pub changed : (s : Slip) (t old new : Told) (v : Verdict) (result : Result Offered OfferFault) → t ≡ old → judge (world_told t) s ≡ v → IsAnswer (answer_by (world_told t) s v) result → is_mem result ≡ false
+    → new.entries ≡ added_by (world_told t) s v ++ t.entries → new.conflicts ≡ (world_by (world_told t) s v).conflicts → new.payloads ≡ t.payloads
+    → IsDone (judge (world_told old) s) s old new result
+changed s t old new v result is rule said ok entries conflicts payloads =
+    subst (λ (o : Told). IsDone (judge (world_told o) s) s o new result) is (subst (λ (x : Verdict). IsDone x s t new result) (sym rule) (record {
+      said = said;
+      entries = λ _. entries;
+      conflicts = λ _. conflicts;
+      mem = λ m. absurd (grind (arith, m, ok));
+      payloads = payloads;
+    }))

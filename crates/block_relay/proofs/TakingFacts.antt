@@ -1,5 +1,5 @@
 -- The waiting blocks as they are taken: what was dropped, as the history grows, and what may be taken next.
-use Rattle.std.proofs.Common.{arith, ◌≡◌, ◌≤◌, ◌+◌, List, [], ◌∷◌, ◌++◌, length, reverse, Option, Some, None, refl, sym, ap, ◌∙◌, IsSome, ℕ, false, true, is_some, filter, inl, inr, subst}
+use Rattle.std.proofs.Common.{arith, ◌≡◌, ◌≤◌, ◌+◌, List, [], ◌∷◌, ◌++◌, length, Option, Some, None, refl, sym, ap, ◌∙◌, IsSome, ℕ, false, true, is_some, filter, inl, inr, subst}
 use Rattle.std.specs.List.{AllByRecursion}
 use Rattle.std.specs.Option.{option_map}
 use Rattle.block_record.specs.declared.blocks.Block.{Block}
@@ -18,7 +18,7 @@ use Rattle.relay_model.proofs.Judged.{IsTaker, judged_takes}
 use Rattle.relay_model.proofs.Sound.{first_intake, new_parts, rises_above, starts, swap_ids}
 use Rattle.block_relay.proofs.JudgedFacts.{fits_child}
 use Rattle.relay_model.proofs.Intakes.{keeps_one, next_is}
-use Rattle.block_relay.specs.Taking.{AreAllSome, AreHeld, CanStart, CanTake, Dropping, HasLimits, dropped_after, history_after}
+use Rattle.block_relay.specs.Taking.{AreAllSome, CanStart, CanTake, Dropping, HasLimits, dropped_after, history_after}
 use Rattle.block_relay.proofs.CountFacts.{counts_first, counts_one, next_counts}
 
 abbrev pub intake_by : List Slip → List Slip → List Clash → Intake

@@ -1,15 +1,13 @@
-use Rattle.std.proofs.Common.{arith, ◌≡◌, ◌<◌, ◌≤◌, ◌+◌, ◌-◌, ◌++◌, ◌∷◌, [], List, length, reverse, replicate, cond, false, ap, sym, ◌∙◌, subst, refl}
+use Rattle.std.proofs.Common.{arith, ◌≡◌, ◌≤◌, ◌+◌, ◌-◌, ◌++◌, List, length, reverse, replicate, cond, ap, sym, ◌∙◌, subst, refl}
 use Rattle.std.proofs.lemmas.List.{length-append, length-reverse}
 use Rattle.block_record.specs.declared.blocks.Slip.{Slip}
-use Rattle.relay_model.specs.Chronicles.{Entry, Opened}
-use Rattle.relay_model.specs.declared.answers.Conflict.{Conflict as Clash}
-use Rattle.relay_model.specs.Offers.{Takes, Verdict, judge, judge_limit}
-use Rattle.relay_model.specs.Worlds.{World}
+use Rattle.relay_model.specs.Chronicles.{Opened}
+use Rattle.relay_model.specs.Offers.{Takes, judge, judge_limit}
 use Rattle.block_relay.specs.declared.marks.Mark.TheVariants as mark
-use Rattle.block_relay.specs.Chronicle.{Told, IsKept, entries_by, has_kind_mark, kind_mark, limits_told, world_told}
-use Rattle.block_relay.specs.Done.{IsDone}
+use Rattle.block_relay.specs.Chronicle.{Told, entries_by, has_kind_mark, kind_mark, limits_told, world_told}
 use Rattle.block_relay.specs.Taking.{intake_from}
 use Rattle.block_relay.proofs.AdmissionFacts.{brings_most, clashes_same, conflicts_after, kept_as, entries_after, reserved, said_after, takes_rule}
+use Rattle.block_relay.proofs.DoneFacts.{changed}
 use Rattle.block_relay.proofs.KeptFacts.{admission_kind, admits, brings, marks_reverse, told}
 use Rattle.block_relay.proofs.relay.Relay.admit.Goals as goal
 
@@ -76,7 +74,7 @@ invariant_of-self-2 c =
     let conflicts = conflicts_after t.conflicts.items c.into_lists-noted.result.0.items c.append.new.self.items _ all dropped in
     let kind = c.keep_root_kind.ensures.kept ∙ c.in_ok-root_kind.ensures.kind c.make_room.new.db.history (c.len-from.ensures.len ∙ sym (ap length c.make_room.ensures.history)) in (
       kept_as _ _ _ _ _ _ _ _ _ _ _ entries (conflicts ∙ clashes_same w h t.room.waiting s k.parts.history k.parts.waiting) kind done,
-      λ _. omega (arith, c.mark_admitted.ensures.len, c.mark_admitted.ensures.capacity, c.keep_root_kind.ensures.len, c.keep_root_kind.ensures.capacity, c.in_ok-reserve_admitted.ensures.ok.0),
+      λ _. omega (arith, brings_most w s t.db t.room k.parts k.sound, ap length is, c.len-from.ensures.len, c.len.ensures.len, c.in_ok-follow.ensures.ok.0, c.mark_admitted.ensures.len, c.mark_admitted.ensures.capacity, c.keep_root_kind.ensures.len, c.keep_root_kind.ensures.capacity, c.in_ok-reserve_admitted.ensures.ok.0),
       λ e. ap (λ l. has_kind_mark (reverse l)) marks ∙ ap has_kind_mark (marks_reverse t.marks.items root n) ∙ admission_kind t.kind root (reverse t.marks.items) n c.self.invariant.2 (sym c.keep_root_kind.ensures.kept ∙ e),
       λ p. c.admit.ensures.held (c.requires.payloads (ap (λ (v : Told). v.payloads) (sym c.self.view_is) ∙ p)) (let h = c.self.invariant.3 p in record { history = rw c.make_room.ensures.held h.history; waiting = h.waiting }),
     )
@@ -114,10 +112,5 @@ returns c =
     let from : c.len-from.result ≡ length h = c.len-from.ensures.len in
     let taken = c.into_lists-noted.ensures.told in
     let clashes = c.admit.ensures.dropped ∙ ap (λ (l : List Slip). (intake_from l t.room.waiting s).dropped) c.make_room.ensures.history in
-    subst (λ (v : Told). IsDone (judge (world_told v) s) s v _ _) c.self.view_is (subst (λ (x : Verdict). IsDone x s told _ _) (sym takes) (record {
-      said = said_after w h t.room.waiting s c.len-from.result n c.admit.new.db.history c.into_lists-noted.result.1.items _ k.parts.history k.parts.waiting is from len taken clashes;
-      entries = λ _. entries;
-      conflicts = λ _. conflicts ∙ clashes_same w h t.room.waiting s k.parts.history k.parts.waiting;
-      mem = λ e. absurd (grind (arith, e));
-      payloads = refl;
-    }))
+    let said = said_after w h t.room.waiting s c.len-from.result n c.admit.new.db.history c.into_lists-noted.result.1.items _ k.parts.history k.parts.waiting is from len taken clashes in
+    changed s told _ _ Takes _ c.self.view_is takes said refl entries (conflicts ∙ clashes_same w h t.room.waiting s k.parts.history k.parts.waiting) refl

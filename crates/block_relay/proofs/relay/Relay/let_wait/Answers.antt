@@ -1,6 +1,5 @@
-use Rattle.std.proofs.Common.{arith, ◌≡◌, [], ◌∷◌, ◌++◌, false, reverse, ap, sym, ◌∙◌, subst, IsTrue}
+use Rattle.std.proofs.Common.{arith, ◌≡◌, [], ◌∷◌, ◌++◌, reverse, ap, sym, ◌∙◌, subst}
 use Rattle.std.specs.Option.{option_map}
-use Rattle.wait_room.specs.Rooms.{with_block}
 use Rattle.relay_model.specs.Chronicles.{Opened}
 use Rattle.relay_model.specs.Offers.{Waits, judge}
 use Rattle.block_relay.specs.declared.marks.Mark.TheVariants as mark
