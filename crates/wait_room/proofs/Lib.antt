@@ -1,3 +1,4 @@
 pub mod TurnedFacts
 pub mod RoomFacts
 pub mod ScanFacts
+pub mod ChildFacts

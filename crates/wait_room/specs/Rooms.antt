@@ -66,6 +66,10 @@ find_block room id = kept_at room.waiting room.held id
 abbrev pub has_child : List Slip → List ℕ → Bool
 has_child waiting id = list_any (λ s. same_id s.parent_id id) waiting
 
+-- how many waiting blocks name the id as their parent's
+abbrev pub children_in : List Slip → List ℕ → ℕ
+children_in waiting id = length (filter (λ s. same_id s.parent_id id) waiting)
+
 -- the slips of waiting blocks, in order of arrival
 abbrev pub slips_of : List Waiter → List Slip
 slips_of waiters = map (λ w. w.slip) waiters

@@ -1,6 +1,7 @@
 //! The room where blocks wait for their parents.
 #![tactic(auto)]
 
+mod children;
 mod holds;
 mod room;
 mod scans;

@@ -9,14 +9,16 @@ ghost use Rattle.chain_model.specs.Ancestry.{find_id, has_id};
 ghost use Rattle.relay_model.specs.Soundness.{IsDistinct};
 ghost use Rattle.relay_model.specs.Worlds.{descendants as descendants_in, descends as descends_in, next_waiting, room_bytes};
 ghost use Rattle.block_tree.specs.Places.{slip_at};
-ghost use Rattle.wait_room.specs.Rooms.{AreKept, IsOwnSlip, find_block, fits_in, has_child as has_child_in, room_above, room_without, with_block};
+ghost use Rattle.wait_room.specs.Rooms.{AreKept, IsOwnSlip, children_in, find_block, fits_in, has_child as has_child_in, room_above, room_without, with_block};
 
+use crate::children::{Children, add_child, count_children, drop_children, remove_child};
 use crate::holds::Holds;
-use crate::scans::{bytes_of, keep_above, least_linked, lowest_of, names_parent};
+use crate::scans::{bytes_of, keep_above, least_linked, lowest_of, push_reserved};
 use crate::waiters::Waiter;
 use block_record::{Block, Id, Slip};
 use indexmap::IndexSet;
 use std::alloc::{AllocError, Global};
+use std::collections::HashMap;
 use std::marker::Model;
 use std::sync::Arc;
 
@@ -25,6 +27,8 @@ use std::sync::Arc;
 #[derive(Drop)]
 pub struct WaitRoom {
     waiters: IndexSet<Waiter>,
+    /// How many blocks wait, by their parents' ids.
+    children: HashMap<Id, Children>,
     /// The bytes of the payloads that wait.
     bytes: u64,
     /// No waiting block has a lower number.
@@ -34,11 +38,12 @@ pub struct WaitRoom {
 }
 
 impl Model for WaitRoom {
-    ghost use Rattle.std.specs.Prelude.{◌≡◌, ◌≤◌, length};
+    ghost use Rattle.std.specs.Prelude.{◌≡◌, ◌≤◌, ℕ, List, length};
     ghost use Rattle.std.specs.List.{All};
     ghost use Rattle.relay_model.specs.Soundness.{IsDistinct};
     ghost use Rattle.relay_model.specs.Worlds.{room_bytes};
-    ghost use Rattle.wait_room.specs.Rooms.{HasOwnSlip, Room, held_of, slips_of, waiting_of};
+    ghost use Rattle.wait_room.specs.Children.{children_at};
+    ghost use Rattle.wait_room.specs.Rooms.{HasOwnSlip, Room, children_in, held_of, slips_of, waiting_of};
 
     ghost Value = { Room };
 
@@ -54,7 +59,8 @@ impl Model for WaitRoom {
         × All (λ w. t.lowest ≤ w.slip.num) t.waiters.keys
         × (t.bytes ≡ room_bytes (slips_of t.waiters.keys))
         × (t.bytes ≤ t.bytes_max)
-        × (length t.waiters.keys ≤ t.blocks_max) };
+        × (length t.waiters.keys ≤ t.blocks_max)
+        × ((id : List ℕ) → children_at t.children id ≡ children_in (slips_of t.waiters.keys) id) };
 }
 
 impl WaitRoom {
@@ -67,6 +73,7 @@ impl WaitRoom {
     {
         WaitRoom {
             waiters: IndexSet::new(alloc),
+            children: HashMap::new(alloc),
             bytes: 0,
             lowest: u64::MAX,
             blocks_max: blocks,
@@ -110,11 +117,18 @@ impl WaitRoom {
         }
     }
 
+    /// How many waiting blocks name the id as their parent's.
+    pub fn children(&self, id: &Id) -> u64
+        ensures { result ≡ children_in self.now.waiting id.now }
+    {
+        count_children(&self.children, id)
+    }
+
     /// Whether a waiting block names the id as its parent's.
     pub fn has_child(&self, id: &Id) -> bool
         ensures { result ≡ has_child_in self.now.waiting id.now }
     {
-        names_parent(self.waiters.as_slice(), id)
+        0 < self.children(id)
     }
 
     /// How many waiting blocks have a chain of parent ids inside the room that leads to the id.
@@ -170,7 +184,9 @@ impl WaitRoom {
     {
         let bytes = self.bytes + u64::from(slip.length);
         let lowest = self.lowest.min(slip.num);
-        let _ = self.waiters.insert(Waiter { slip, block })?;
+        self.waiters.reserve(1)?;
+        add_child(&mut self.children, &slip.parent_id, &slip.id)?;
+        push_reserved(&mut self.waiters, Waiter { slip, block });
         self.bytes = bytes;
         self.lowest = lowest;
         Ok(())
@@ -204,6 +220,7 @@ impl WaitRoom {
     {
         let Waiter { slip, block } = self.waiters.shift_remove_index(at).unwrap();
         self.bytes -= u64::from(slip.length);
+        remove_child(&mut self.children, &slip.parent_id);
         (slip, block)
     }
 
@@ -215,6 +232,7 @@ impl WaitRoom {
         if num < self.lowest {
             return;
         }
+        drop_children(&mut self.children, self.waiters.as_slice(), num);
         keep_above(&mut self.waiters, num);
         self.bytes = bytes_of(self.waiters.as_slice());
         self.lowest = lowest_of(self.waiters.as_slice());

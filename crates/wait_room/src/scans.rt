@@ -5,11 +5,13 @@ ghost use Rattle.std.specs.List.{All};
 ghost use Rattle.block_record.specs.declared.blocks.Slip.{Slip as SlipOf};
 ghost use Rattle.block_tree.specs.Places.{slip_at, slip_of};
 ghost use Rattle.relay_model.specs.Worlds.{lesser, next_waiting, room_bytes};
-ghost use Rattle.wait_room.specs.Rooms.{has_child, slips_of, waiting_of};
+ghost use Rattle.indexmap.specs.IndexSet.{insert_key, spare};
+ghost use Rattle.wait_room.specs.Keys.{same_key};
+ghost use Rattle.wait_room.specs.Rooms.{slips_of, waiting_of};
 
 use crate::holds::Holds;
 use crate::waiters::Waiter;
-use block_record::{Id, Slip};
+use block_record::Slip;
 use indexmap::IndexSet;
 
 /// Of the blocks whose parents are held, where the one with the least number stands, among equals
@@ -74,16 +76,13 @@ pub fn lowest_of(waiters: &[Waiter]) -> u64
     lowest
 }
 
-/// Whether a waiting block names the id as its parent's.
-pub fn names_parent(waiters: &[Waiter], id: &Id) -> bool
-    ensures { result ≡ has_child (slips_of waiters.now) id.now }
+/// Adds a waiting block for which there is memory.
+pub fn push_reserved(waiters: &mut IndexSet<Waiter>, waiter: Waiter)
+    requires { 0 < spare waiters.old }
+    ensures { waiters.new.keys ≡ insert_key same_key waiters.old.keys waiter }
 {
-    for waiter in waiters {
-        if waiter.slip.parent_id == *id {
-            return true;
-        }
-    }
-    false
+    // It takes no memory: there is room.
+    let _ = waiters.insert(waiter);
 }
 
 /// Removes the blocks with a number of at most `num`.

@@ -7,6 +7,9 @@ use Rattle.chain_model.specs.Ancestry.{has_id}
 use Rattle.relay_model.specs.Worlds.{room_bytes}
 use Rattle.wait_room.specs.declared.waiters.Waiter.{Waiter}
 use Rattle.wait_room.specs.Rooms.{Room, slips_of, with_block}
+use Rattle.indexmap.specs.IndexSet.{insert_key}
+use Rattle.wait_room.specs.Keys.{same_key}
+use Rattle.wait_room.proofs.ChildFacts.{children_few, put_child}
 use Rattle.wait_room.proofs.RoomFacts.{bytes_turned, fits_parts, put_in, same_room}
 use Rattle.wait_room.proofs.room.WaitRoom.put.Goals as goal
 
@@ -17,6 +20,14 @@ overflow_add-bytes c =
     let most = ap (λ (v : Room). v.most_bytes) c.self.view_is in
     omega (arith, fits.1, bytes, most)
 
+pub add_child-requires : goal.add_child-requires
+add_child-requires c =
+    let keys = c.self.inside.waiters.keys in
+    let fits = fits_parts c.args.self.now c.args.slip.length c.requires.fits in
+    let count = ap (λ (v : Room). v.most_blocks) c.self.view_is in
+    let len = ap (λ (v : Room). length v.waiting) c.self.view_is in
+    omega (arith, fits.0, len, count, length-reverse (slips_of keys), length-map keys (λ (x : Waiter). x.slip), c.self.invariant.6 c.args.slip.parent_id, children_few (slips_of keys) c.args.slip.parent_id)
+
 pub invariant_of-self-2 : goal.invariant_of-self-2
 invariant_of-self-2 c =
     let fits = fits_parts c.args.self.now c.args.slip.length c.requires.fits in
@@ -26,18 +37,19 @@ invariant_of-self-2 c =
     let len = ap (λ (v : Room). length v.waiting) c.self.view_is in
     let w : Waiter = record { slip = c.args.slip; block = c.args.block } in
     let fresh = subst (λ (v : Room). has_id v.waiting c.args.slip.id ≡ false) (sym c.self.view_is) c.requires.fresh in
-    let is = put_in _ _ w c.in_ok-insert.ensures.keys fresh c.self.invariant.0 c.self.invariant.1 c.requires.own in (
+    let is = put_in _ _ w (c.push_reserved.ensures ∙ ap (λ l. insert_key same_key l w) c.reserve.ensures.keys) fresh c.self.invariant.0 c.self.invariant.1 c.requires.own in (
       is.distinct,
       is.own,
       is.above c.min-lowest.result (omega arith) (All-weaker (λ x. c.self.inside.lowest ≤ x.slip.num) (λ x. c.min-lowest.result ≤ x.slip.num) (λ x le. omega arith) c.self.inside.waiters.keys c.self.invariant.2),
       omega (arith, is.bytes, c.from.ensures, c.self.invariant.3),
       omega (arith, fits.1, bytes, most, c.from.ensures),
       omega (arith, fits.0, is.len, len, count, length-reverse (slips_of c.self.inside.waiters.keys), length-map c.self.inside.waiters.keys (λ (x : Waiter). x.slip)),
+      λ id. omega (arith, c.in_ok-add_child.ensures.ok id, c.self.invariant.6 id, put_child c.self.inside.waiters.keys _ w (c.push_reserved.ensures ∙ ap (λ l. insert_key same_key l w) c.reserve.ensures.keys) fresh id),
     )
 
 pub returns-clause-ok : goal.returns-clause-ok
 returns-clause-ok c =
     let w : Waiter = record { slip = c.args.slip; block = c.args.block } in
     let fresh = subst (λ (v : Room). has_id v.waiting c.args.slip.id ≡ false) (sym c.self.view_is) c.requires.fresh in
-    let is = put_in _ _ w c.in_ok-insert.ensures.keys fresh c.self.invariant.0 c.self.invariant.1 c.requires.own in
+    let is = put_in _ _ w (c.push_reserved.ensures ∙ ap (λ l. insert_key same_key l w) c.reserve.ensures.keys) fresh c.self.invariant.0 c.self.invariant.1 c.requires.own in
     same_room _ _ _ _ _ _ is.waiting is.held ∙ ap (λ (v : Room). with_block v c.args.slip (option_map arc_value c.args.block)) c.self.view_is

@@ -5,7 +5,8 @@ use Rattle.block_tree.specs.Places.{slip_at}
 use Rattle.relay_model.specs.Soundness.{IsDistinct}
 use Rattle.relay_model.specs.Worlds.{room_bytes}
 use Rattle.wait_room.specs.declared.waiters.Waiter.{Waiter}
-use Rattle.wait_room.specs.Rooms.{HasOwnSlip, Room, find_block, held_of, room_without, slips_of, waiting_of}
+use Rattle.wait_room.specs.Rooms.{HasOwnSlip, Room, children_in, find_block, held_of, room_without, slips_of, waiting_of}
+use Rattle.wait_room.proofs.ChildFacts.{child_there, removed_child}
 use Rattle.wait_room.proofs.RoomFacts.{all_removed, removed_bytes, taken_out, same_room}
 use Rattle.wait_room.proofs.ScanFacts.{slip_at_slices}
 use Rattle.wait_room.proofs.room.WaitRoom.take_at.Goals as goal
@@ -15,6 +16,13 @@ overflow_sub-self c =
     let w = c.unwrap-slip.result in
     let at : slice_get c.self.inside.waiters.keys c.args.at ≡ Some w = sym c.shift_remove_index.ensures.key ∙ c.unwrap-slip.ensures in
     omega (arith, removed_bytes c.self.inside.waiters.keys c.args.at w at, c.self.invariant.3, c.from.ensures)
+
+pub remove_child-requires : goal.remove_child-requires
+remove_child-requires c =
+    let keys = c.self.inside.waiters.keys in
+    let w = c.unwrap-slip.result in
+    let at : slice_get keys c.args.at ≡ Some w = sym c.shift_remove_index.ensures.key ∙ c.unwrap-slip.ensures in
+    omega (arith, child_there keys c.args.at w at, c.self.invariant.6 w.slip.parent_id)
 
 pub invariant_of-self : goal.invariant_of-self
 invariant_of-self c =
@@ -30,6 +38,7 @@ invariant_of-self c =
       omega (arith, bytes, ap (λ l. room_bytes (slips_of l)) left, c.self.invariant.3, c.from.ensures),
       omega (arith, c.self.invariant.4),
       omega (arith, c.shift_remove_index.ensures.len, c.self.invariant.5),
+      λ id. omega (arith, removed_child keys c.args.at w at id, ap (λ l. children_in (slips_of l) id) left, c.remove_child.ensures id, c.self.invariant.6 id),
     )
 
 pub returns-clause-slip : goal.returns-clause-slip
