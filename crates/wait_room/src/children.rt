@@ -29,6 +29,14 @@ pub fn count_children(children: &HashMap<Id, Children>, parent: &Id) -> u64
     }
 }
 
+/// The id of the latest child of the id. It may be gone while others wait.
+pub fn latest_child<'a>(children: &'a HashMap<Id, Children>, parent: &Id) -> Option<&'a Id> {
+    match children.get(parent) {
+        Some(found) => Some(&found.latest),
+        None => None,
+    }
+}
+
 /// Counts one more child. At an error nothing has changed.
 pub fn add_child(
     children: &mut HashMap<Id, Children>,

@@ -8,12 +8,14 @@ ghost use Rattle.block_record.specs.Slips.{slip as slip_of_block};
 ghost use Rattle.chain_model.specs.Ancestry.{find_id, has_id};
 ghost use Rattle.relay_model.specs.Soundness.{IsDistinct};
 ghost use Rattle.relay_model.specs.Worlds.{descendants as descendants_in, descends as descends_in, next_waiting, room_bytes};
-ghost use Rattle.block_tree.specs.Places.{slip_at};
-ghost use Rattle.wait_room.specs.Rooms.{AreKept, IsOwnSlip, children_in, find_block, fits_in, has_child as has_child_in, room_above, room_without, with_block};
+ghost use Rattle.block_tree.specs.Places.{slip_at, slip_of};
+ghost use Rattle.wait_room.specs.Rooms.{AreKept, IsOwnSlip, children_in, find_block, fits_in, has_child as has_child_in, linked_in, room_above, room_without, with_block};
 
-use crate::children::{Children, add_child, count_children, drop_children, remove_child};
+use crate::children::{
+    Children, add_child, count_children, drop_children, latest_child, remove_child,
+};
 use crate::holds::Holds;
-use crate::scans::{bytes_of, keep_above, least_linked, lowest_of, push_reserved};
+use crate::scans::{bytes_of, keep_above, least_linked, lowest_of, only_linked, push_reserved};
 use crate::waiters::Waiter;
 use block_record::{Block, Id, Slip};
 use indexmap::IndexSet;
@@ -207,6 +209,59 @@ impl WaitRoom {
     {
         let at = least_linked(self.waiters.as_slice(), held)?;
         Some(self.take_at(at))
+    }
+
+    /// The same as `take_next`, for a caller that knows how many of the blocks have their parents
+    /// held. Where it is one block, and it was the last to wait for the id, nothing is scanned.
+    pub fn take_linked<H: Holds>(
+        &mut self,
+        held: &H,
+        linked: u64,
+        parent: &Id,
+    ) -> Option<(Slip, Option<Arc<Block>>)>
+        requires { linked ≡ linked_in (H.history held.now) self.old.waiting }
+        ensures next { option_map (λ p. p.0) result
+            ≡ next_waiting (H.history held.now) self.old.waiting }
+        ensures own { IfSome result (λ p. IfSome p.1 (λ b. p.0 ≡ slip_of_block b.value)) }
+        ensures block { IfSome result
+            (λ p. find_block self.old p.0.id ≡ Some (option_map (λ b. b.value) p.1)) }
+        ensures room { self.new
+            ≡ room_without self.old (next_waiting (H.history held.now) self.old.waiting) }
+        ensures kept { AreKept self.old → AreKept self.new }
+        ensures given { AreKept self.old → IfSome result (λ p. IsSome p.1) }
+    {
+        let at = self.find_linked(held, linked, parent)?;
+        Some(self.take_at(at))
+    }
+
+    /// Where the next block stands, of `linked` blocks whose parents are held.
+    fn find_linked<H: Holds>(&self, held: &H, linked: u64, parent: &Id) -> Option<usize>
+        requires { linked ≡ linked_in (H.history held.now) self.now.waiting }
+        ensures least { slip_of self.now.waiting result
+            ≡ next_waiting (H.history held.now) self.now.waiting }
+        ensures range { IfSome result (λ at. at < length self.now.waiting) }
+    {
+        if linked == 0 {
+            return None;
+        }
+        if linked == 1 {
+            if let Some(at) = self.find_child(held, parent) {
+                return Some(at);
+            }
+        }
+        least_linked(self.waiters.as_slice(), held)
+    }
+
+    /// Where the latest child of the id stands, if its parent is held: no other block's is.
+    fn find_child<H: Holds>(&self, held: &H, parent: &Id) -> Option<usize>
+        requires { linked_in (H.history held.now) self.now.waiting ≡ 1 }
+        ensures least { IfSome result (λ at. slip_at self.now.waiting at
+            ≡ next_waiting (H.history held.now) self.now.waiting) }
+        ensures range { IfSome result (λ at. at < length self.now.waiting) }
+    {
+        let latest = latest_child(&self.children, parent)?;
+        let at = self.waiters.get_index_of(latest)?;
+        only_linked(self.waiters.as_slice(), held, at)
     }
 
     /// Takes out the block at a place.

@@ -7,7 +7,7 @@ ghost use Rattle.block_tree.specs.Places.{slip_at, slip_of};
 ghost use Rattle.relay_model.specs.Worlds.{lesser, next_waiting, room_bytes};
 ghost use Rattle.indexmap.specs.IndexSet.{insert_key, spare};
 ghost use Rattle.wait_room.specs.Keys.{same_key};
-ghost use Rattle.wait_room.specs.Rooms.{slips_of, waiting_of};
+ghost use Rattle.wait_room.specs.Rooms.{linked_in, slips_of, waiting_of};
 
 use crate::holds::Holds;
 use crate::waiters::Waiter;
@@ -28,6 +28,20 @@ pub fn least_linked<H: Holds>(waiters: &[Waiter], held: &H) -> Option<usize>
         }
     }
     best
+}
+
+/// The block at a place where its parent is held: it is the only one.
+pub fn only_linked<H: Holds>(waiters: &[Waiter], held: &H, at: usize) -> Option<usize>
+    requires range { at < length waiters.now }
+    requires one { linked_in (H.history held.now) (waiting_of waiters.now) ≡ 1 }
+    ensures least { IfSome result (λ found. slip_at (waiting_of waiters.now) found
+        ≡ next_waiting (H.history held.now) (waiting_of waiters.now)) }
+    ensures range { IfSome result (λ found. found < length waiters.now) }
+{
+    if !held.holds(&slip_in(waiters, at).parent_id) {
+        return None;
+    }
+    Some(at)
 }
 
 /// The one with the lesser number, and of two with one number the first.
