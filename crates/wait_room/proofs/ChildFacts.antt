@@ -44,12 +44,15 @@ counted_less m n p w updates less q =
       | inr other ↦ sym (at ∙ rw other refl) ∙ rw other (omega arith)
     ]
 
-pub one_child : (s : Slip) (xs : List Slip) (id : List ℕ) → children_in (s ∷ xs) id ≡ children_in xs id + cond (same_id s.parent_id id) 1 0
-one_child s xs id =
-    elim (cases_Bool (same_id s.parent_id id)) [
-      | inl same ↦ rw same (omega arith)
+pub count_first : (p : Slip → Bool) (s : Slip) (xs : List Slip) → length (filter p (s ∷ xs)) ≡ length (filter p xs) + cond (p s) 1 0
+count_first p s xs =
+    elim (cases_Bool (p s)) [
+      | inl passes ↦ rw passes (omega arith)
       | inr other ↦ rw other (omega arith)
     ]
+
+pub one_child : (s : Slip) (xs : List Slip) (id : List ℕ) → children_in (s ∷ xs) id ≡ children_in xs id + cond (same_id s.parent_id id) 1 0
+one_child s xs id = count_first (λ t. same_id t.parent_id id) s xs
 
 pub children_append : (xs ys : List Slip) (id : List ℕ) → children_in (xs ++ ys) id ≡ children_in xs id + children_in ys id
 children_append xs ys id = ap length (filter-append (λ (s : Slip). same_id s.parent_id id) xs ys) ∙ length-append _ _
@@ -57,16 +60,23 @@ children_append xs ys id = ap length (filter-append (λ (s : Slip). same_id s.pa
 pub children_push : (xs : List Slip) (s : Slip) (id : List ℕ) → children_in (xs ++ s ∷ []) id ≡ children_in xs id + cond (same_id s.parent_id id) 1 0
 children_push xs s id = children_append xs (s ∷ []) id ∙ omega (arith, one_child s [] id)
 
+pub count_turned : (p : Slip → Bool) (xs : List Slip) → length (filter p (reverse xs)) ≡ length (filter p xs)
+count_turned p xs = ap length (filter_turned p xs) ∙ length-reverse _
+
 pub children_turned : (xs : List Slip) (id : List ℕ) → children_in (reverse xs) id ≡ children_in xs id
-children_turned xs id = ap length (filter_turned (λ (s : Slip). same_id s.parent_id id) xs) ∙ length-reverse _
+children_turned xs id = count_turned (λ s. same_id s.parent_id id) xs
 
 pub children_few : (xs : List Slip) (id : List ℕ) → children_in xs id ≤ length xs
 children_few xs id = length_filtered (λ (s : Slip). same_id s.parent_id id) xs
 
+-- one block fewer, counted by any test
+pub removed_one : (p : Slip → Bool) (xs : List Waiter) (i : ℕ) (w : Waiter) → slice_get xs i ≡ Some w → length (filter p (slips_of xs)) ≡ length (filter p (slips_of (remove xs i))) + cond (p w.slip) 1 0
+removed_one p [] i w e = absurd (grind (arith, e))
+removed_one p (x ∷ xs) zero w e = rw (← (same_Some x w e)) (count_first p x.slip (slips_of xs))
+removed_one p (x ∷ xs) (suc i) w e = omega (arith, removed_one p xs i w e, count_first p x.slip (slips_of xs), count_first p x.slip (slips_of (remove xs i)))
+
 pub removed_child : (xs : List Waiter) (i : ℕ) (w : Waiter) → slice_get xs i ≡ Some w → (id : List ℕ) → children_in (slips_of xs) id ≡ children_in (slips_of (remove xs i)) id + cond (same_id w.slip.parent_id id) 1 0
-removed_child [] i w e id = absurd (grind (arith, e))
-removed_child (x ∷ xs) zero w e id = rw (← (same_Some x w e)) (one_child x.slip (slips_of xs) id)
-removed_child (x ∷ xs) (suc i) w e id = omega (arith, removed_child xs i w e id, one_child x.slip (slips_of xs) id, one_child x.slip (slips_of (remove xs i)) id)
+removed_child xs i w e id = removed_one (λ s. same_id s.parent_id id) xs i w e
 
 -- some block names the id exactly where one is counted
 pub any_counted : (xs : List Slip) (id : List ℕ) → list_any (λ (s : Slip). same_id s.parent_id id) xs ≡ ltb 0 (children_in xs id)

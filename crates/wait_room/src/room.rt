@@ -1,6 +1,6 @@
 //! The room.
 
-ghost use Rattle.std.specs.Prelude.{◌≡◌, ◌<◌, ◌≤◌, ◌^◌, [], length, IfOk, IfSome, IsSome, OnOk, OnErr, IsTrue, Some, false};
+ghost use Rattle.std.specs.Prelude.{◌≡◌, ◌<◌, ◌≤◌, ◌^◌, ◌+◌, Bool, [], filter, length, if◌then◌else◌, IfOk, IfSome, IsSome, OnOk, OnErr, IsTrue, Some, false};
 ghost use Rattle.std.specs.List.{AllZip};
 ghost use Rattle.std.specs.Option.{option_copied, option_map};
 ghost use Rattle.block_record.specs.declared.blocks.Slip.{Slip as SlipOf};
@@ -229,6 +229,8 @@ impl WaitRoom {
             ≡ room_without self.old (next_waiting (H.history held.now) self.old.waiting) }
         ensures kept { AreKept self.old → AreKept self.new }
         ensures given { AreKept self.old → IfSome result (λ p. IsSome p.1) }
+        ensures left { IfSome result
+            (λ _. linked ≡ linked_in (H.history held.now) self.new.waiting + 1) }
     {
         let at = self.find_linked(held, linked, parent)?;
         Some(self.take_at(at))
@@ -272,6 +274,8 @@ impl WaitRoom {
         ensures block { find_block self.old result.0.id
             ≡ Some (option_map (λ b. b.value) result.1) }
         ensures room { self.new ≡ room_without self.old (Some result.0) }
+        ensures counts { (p : SlipOf → Bool) → length (filter p self.old.waiting)
+            ≡ length (filter p self.new.waiting) + (if p result.0 then 1 else 0) }
     {
         let Waiter { slip, block } = self.waiters.shift_remove_index(at).unwrap();
         self.bytes -= u64::from(slip.length);

@@ -1,12 +1,12 @@
-use Rattle.std.proofs.Common.{arith, ◌≡◌, ◌≤◌, Some, ap, sym, ◌∙◌, subst}
-use Rattle.std.specs.List.{All, slice_get}
+use Rattle.std.proofs.Common.{arith, ◌≡◌, ◌≤◌, Some, ◌+◌, ap, sym, ◌∙◌, subst, cond, filter, length}
+use Rattle.std.specs.List.{All, remove, slice_get}
 use Rattle.std.specs.Option.{option_map}
 use Rattle.block_tree.specs.Places.{slip_at}
 use Rattle.relay_model.specs.Soundness.{IsDistinct}
 use Rattle.relay_model.specs.Worlds.{room_bytes}
 use Rattle.wait_room.specs.declared.waiters.Waiter.{Waiter}
 use Rattle.wait_room.specs.Rooms.{HasOwnSlip, Room, children_in, find_block, held_of, room_without, slips_of, waiting_of}
-use Rattle.wait_room.proofs.ChildFacts.{child_there, removed_child}
+use Rattle.wait_room.proofs.ChildFacts.{child_there, count_turned, removed_child, removed_one}
 use Rattle.wait_room.proofs.RoomFacts.{all_removed, removed_bytes, taken_out, same_room}
 use Rattle.wait_room.proofs.ScanFacts.{slip_at_slices}
 use Rattle.wait_room.proofs.room.WaitRoom.take_at.Goals as goal
@@ -64,3 +64,11 @@ returns-clause-room c =
     let is = taken_out keys c.args.at w at c.self.invariant.0 c.self.invariant.1 in
     let left = c.shift_remove_index.ensures.keys in
     same_room _ _ _ _ _ _ (ap waiting_of left ∙ is.waiting) (ap held_of left ∙ is.held) ∙ ap (λ (v : Room). room_without v (Some w.slip)) c.self.view_is
+
+pub returns-clause-counts : goal.returns-clause-counts
+returns-clause-counts c = λ p.
+    let keys = c.self.inside.waiters.keys in
+    let w = c.unwrap-slip.result in
+    let at : slice_get keys c.args.at ≡ Some w = sym c.shift_remove_index.ensures.key ∙ c.unwrap-slip.ensures in
+    ap (λ (v : Room). length (filter p v.waiting)) (sym c.self.view_is) ∙ count_turned p (slips_of keys) ∙ removed_one p keys c.args.at w at
+    ∙ ap (λ n. n + cond (p w.slip) 1 0) (sym (count_turned p (slips_of (remove keys c.args.at))) ∙ ap (λ l. length (filter p (waiting_of l))) (sym c.shift_remove_index.ensures.keys))
