@@ -1,5 +1,6 @@
 pub mod TurnedFacts
 pub mod RoomFacts
 pub mod ScanFacts
-pub mod ChildFacts
+pub mod CountFacts
 pub mod LinkedFacts
+pub mod NumberFacts

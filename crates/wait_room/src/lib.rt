@@ -3,6 +3,7 @@
 
 mod children;
 mod holds;
+mod numbers;
 mod room;
 mod scans;
 #[cfg(test)]

@@ -1,6 +1,6 @@
 //! The room.
 
-ghost use Rattle.std.specs.Prelude.{◌≡◌, ◌<◌, ◌≤◌, ◌^◌, ◌+◌, Bool, [], filter, length, if◌then◌else◌, IfOk, IfSome, IsSome, OnOk, OnErr, IsTrue, Some, false};
+ghost use Rattle.std.specs.Prelude.{◌≡◌, ◌<◌, ◌≤◌, ◌^◌, ◌+◌, ℕ, List, Bool, [], filter, length, if◌then◌else◌, IfOk, IfSome, IsSome, OnOk, OnErr, IsTrue, Some, false};
 ghost use Rattle.std.specs.List.{AllZip};
 ghost use Rattle.std.specs.Option.{option_copied, option_map};
 ghost use Rattle.block_record.specs.declared.blocks.Slip.{Slip as SlipOf};
@@ -9,18 +9,22 @@ ghost use Rattle.chain_model.specs.Ancestry.{find_id, has_id};
 ghost use Rattle.relay_model.specs.Soundness.{IsDistinct};
 ghost use Rattle.relay_model.specs.Worlds.{descendants as descendants_in, descends as descends_in, next_waiting, room_bytes};
 ghost use Rattle.block_tree.specs.Places.{slip_at, slip_of};
+ghost use Rattle.block_record.specs.Ids.{same_id};
+ghost use Rattle.wait_room.specs.Children.{children_at, IsSame};
+ghost use Rattle.wait_room.specs.Numbers.{number_at, same_num};
 ghost use Rattle.wait_room.specs.Rooms.{AreKept, IsOwnSlip, children_in, find_block, fits_in, has_child as has_child_in, linked_in, room_above, room_without, with_block};
 
 use crate::children::{
     Children, add_child, count_children, drop_children, latest_child, remove_child,
 };
 use crate::holds::Holds;
-use crate::scans::{bytes_of, keep_above, least_linked, lowest_of, only_linked, push_reserved};
+use crate::numbers::{add_number, all_above, drop_numbers, remove_number};
+use crate::scans::{bytes_of, keep_above, least_linked, only_linked, push_reserved};
 use crate::waiters::Waiter;
 use block_record::{Block, Id, Slip};
 use indexmap::IndexSet;
 use std::alloc::{AllocError, Global};
-use std::collections::HashMap;
+use std::collections::{BTreeMap, HashMap};
 use std::marker::Model;
 use std::sync::Arc;
 
@@ -33,8 +37,8 @@ pub struct WaitRoom {
     children: HashMap<Id, Children>,
     /// The bytes of the payloads that wait.
     bytes: u64,
-    /// No waiting block has a lower number.
-    lowest: u64,
+    /// How many blocks wait with each number.
+    numbers: BTreeMap<u64, u64>,
     blocks_max: u64,
     bytes_max: u64,
 }
@@ -45,6 +49,7 @@ impl Model for WaitRoom {
     ghost use Rattle.relay_model.specs.Soundness.{IsDistinct};
     ghost use Rattle.relay_model.specs.Worlds.{room_bytes};
     ghost use Rattle.wait_room.specs.Children.{children_at};
+    ghost use Rattle.wait_room.specs.Numbers.{number_at, numbered_in};
     ghost use Rattle.wait_room.specs.Rooms.{HasOwnSlip, Room, children_in, held_of, slips_of, waiting_of};
 
     ghost Value = { Room };
@@ -58,7 +63,7 @@ impl Model for WaitRoom {
 
     ghost invariant = { λ t. IsDistinct (slips_of t.waiters.keys)
         × All HasOwnSlip t.waiters.keys
-        × All (λ w. t.lowest ≤ w.slip.num) t.waiters.keys
+        × ((n : ℕ) → number_at t.numbers n ≡ numbered_in (slips_of t.waiters.keys) n)
         × (t.bytes ≡ room_bytes (slips_of t.waiters.keys))
         × (t.bytes ≤ t.bytes_max)
         × (length t.waiters.keys ≤ t.blocks_max)
@@ -77,7 +82,7 @@ impl WaitRoom {
             waiters: IndexSet::new(alloc),
             children: HashMap::new(alloc),
             bytes: 0,
-            lowest: u64::MAX,
+            numbers: BTreeMap::new(alloc),
             blocks_max: blocks,
             bytes_max: bytes,
         }
@@ -185,12 +190,10 @@ impl WaitRoom {
         ensures kept { OnOk result (AreKept self.old → IsSome block → AreKept self.new) }
     {
         let bytes = self.bytes + u64::from(slip.length);
-        let lowest = self.lowest.min(slip.num);
         self.waiters.reserve(1)?;
-        add_child(&mut self.children, &slip.parent_id, &slip.id)?;
+        count_slip(&mut self.children, &mut self.numbers, &slip)?;
         push_reserved(&mut self.waiters, Waiter { slip, block });
         self.bytes = bytes;
-        self.lowest = lowest;
         Ok(())
     }
 
@@ -280,6 +283,7 @@ impl WaitRoom {
         let Waiter { slip, block } = self.waiters.shift_remove_index(at).unwrap();
         self.bytes -= u64::from(slip.length);
         remove_child(&mut self.children, &slip.parent_id);
+        remove_number(&mut self.numbers, slip.num);
         (slip, block)
     }
 
@@ -288,12 +292,37 @@ impl WaitRoom {
         ensures room { self.new ≡ room_above num self.old }
         ensures kept { AreKept self.old → AreKept self.new }
     {
-        if num < self.lowest {
+        if all_above(&self.numbers, num) {
             return;
         }
         drop_children(&mut self.children, self.waiters.as_slice(), num);
+        drop_numbers(&mut self.numbers, self.waiters.as_slice(), num);
         keep_above(&mut self.waiters, num);
         self.bytes = bytes_of(self.waiters.as_slice());
-        self.lowest = lowest_of(self.waiters.as_slice());
+    }
+}
+
+/// Counts a block with its parent's id and its number. At an error nothing has changed.
+fn count_slip(
+    children: &mut HashMap<Id, Children>,
+    numbers: &mut BTreeMap<u64, u64>,
+    slip: &Slip,
+) -> Result<(), AllocError>
+    requires child { children_at children.old slip.now.parent_id + 1 < 2 ^ 64 }
+    requires number { number_at numbers.old slip.now.num + 1 < 2 ^ 64 }
+    ensures children { OnOk result ((id : List ℕ) → children_at children.new id
+        ≡ children_at children.old id + (if same_id slip.now.parent_id id then 1 else 0)) }
+    ensures numbers { OnOk result ((n : ℕ) → number_at numbers.new n
+        ≡ number_at numbers.old n + (if same_num slip.now.num n then 1 else 0)) }
+    ensures kept { OnErr result (IsSame children.old children.new
+        × ((n : ℕ) → number_at numbers.new n ≡ number_at numbers.old n)) }
+{
+    add_number(numbers, slip.num)?;
+    match add_child(children, &slip.parent_id, &slip.id) {
+        Ok(()) => Ok(()),
+        Err(fault) => {
+            remove_number(numbers, slip.num);
+            Err(fault)
+        }
     }
 }

@@ -79,17 +79,6 @@ pub fn bytes_of(waiters: &[Waiter]) -> u64
     bytes
 }
 
-/// The least number of a block that waits; the greatest of all numbers where none does.
-pub fn lowest_of(waiters: &[Waiter]) -> u64
-    ensures { All (λ w. result ≤ w.slip.num) waiters.now }
-{
-    let mut lowest = u64::MAX;
-    for waiter in waiters {
-        lowest = lowest.min(waiter.slip.num);
-    }
-    lowest
-}
-
 /// Adds a waiting block for which there is memory.
 pub fn push_reserved(waiters: &mut IndexSet<Waiter>, waiter: Waiter)
     requires { 0 < spare waiters.old }

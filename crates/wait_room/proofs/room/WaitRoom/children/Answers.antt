@@ -1,6 +1,6 @@
 use Rattle.std.proofs.Common.{sym, ap, ◌∙◌}
 use Rattle.wait_room.specs.Rooms.{Room, children_in, slips_of}
-use Rattle.wait_room.proofs.ChildFacts.{children_turned}
+use Rattle.wait_room.proofs.CountFacts.{children_turned}
 use Rattle.wait_room.proofs.room.WaitRoom.children.Goals as goal
 
 pub returns : goal.returns

@@ -1,5 +1,5 @@
 use Rattle.std.proofs.Common.{sym, ap, ◌∙◌, ltb}
-use Rattle.wait_room.proofs.ChildFacts.{any_counted}
+use Rattle.wait_room.proofs.CountFacts.{any_counted}
 use Rattle.wait_room.proofs.room.WaitRoom.has_child.Goals as goal
 
 pub returns : goal.returns
