@@ -296,11 +296,6 @@ length_filtered p (x ∷ xs) =
     let Q : Bool → Type 0 = λ b. length (cond b (x ∷ filter p xs) (filter p xs)) ≤ length (x ∷ xs) in
     elim (p x) as Q [ true ↦ omega (arith, length_filtered p xs) | false ↦ omega (arith, length_filtered p xs) ]
 
-pub none_below : (num lowest : ℕ) (xs : List Waiter) → num < lowest → All (λ w. lowest ≤ w.slip.num) xs → filter (λ w. ltb num w.slip.num) xs ≡ xs
-none_below num lowest xs less all =
-    filter_all (λ w. ltb num w.slip.num) xs
-    (all_from (λ w. lowest ≤ w.slip.num) (λ w. ltb num w.slip.num ≡ true) (λ w le. lt-ltb num w.slip.num (omega arith)) xs (recursion_from_All (λ w. lowest ≤ w.slip.num) xs all))
-
 pub bytes_filtered : (p : Slip → Bool) (xs : List Slip) → room_bytes (filter p xs) ≤ room_bytes xs
 bytes_filtered p [] = omega arith
 bytes_filtered p (x ∷ xs) =
@@ -387,7 +382,6 @@ pub record IsPutIn (xs ys : List Waiter) (w : Waiter) : Type 0 where
   pub own : All HasOwnSlip ys
   pub bytes : room_bytes (slips_of ys) ≡ room_bytes (slips_of xs) + w.slip.length
   pub len : length ys ≡ length xs + 1
-  pub above : (n : ℕ) → n ≤ w.slip.num → All (λ x. n ≤ x.slip.num) xs → All (λ x. n ≤ x.slip.num) ys
 
 pub put_in : (xs ys : List Waiter) (w : Waiter) → ys ≡ insert_key same_key xs w → has_id (waiting_of xs) w.slip.id ≡ false → IsDistinct (slips_of xs) → All HasOwnSlip xs → HasOwnSlip w → IsPutIn xs ys w
 put_in xs ys w e fresh d all mine =
@@ -400,5 +394,4 @@ put_in xs ys w e fresh d all mine =
       own = All-push HasOwnSlip xs w all mine;
       bytes = ap room_bytes pushed ∙ bytes_append (slips_of xs) (w.slip ∷ []) ∙ omega arith;
       len = length_push xs w;
-      above = λ n low each. All-push (λ x. n ≤ x.slip.num) xs w each low;
     }

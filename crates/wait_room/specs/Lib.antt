@@ -1,2 +1,4 @@
+pub mod Children
 pub mod Keys
+pub mod Numbers
 pub mod Rooms

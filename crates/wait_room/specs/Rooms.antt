@@ -7,6 +7,7 @@ use Rattle.block_record.specs.declared.blocks.Block.{Block}
 use Rattle.block_record.specs.declared.blocks.Slip.{Slip}
 use Rattle.block_record.specs.Ids.{same_id}
 use Rattle.block_record.specs.Slips.{slip}
+use Rattle.chain_model.specs.Ancestry.{has_id}
 use Rattle.relay_model.specs.Worlds.{room_bytes}
 use Rattle.wait_room.specs.declared.waiters.Waiter.{Waiter}
 
@@ -65,6 +66,14 @@ find_block room id = kept_at room.waiting room.held id
 -- whether a waiting block names the id as its parent's
 abbrev pub has_child : List Slip → List ℕ → Bool
 has_child waiting id = list_any (λ s. same_id s.parent_id id) waiting
+
+-- how many waiting blocks name the id as their parent's
+abbrev pub children_in : List Slip → List ℕ → ℕ
+children_in waiting id = length (filter (λ s. same_id s.parent_id id) waiting)
+
+-- how many waiting blocks have their parents in the history
+abbrev pub linked_in : List Slip → List Slip → ℕ
+linked_in newest waiting = length (filter (λ s. has_id newest s.parent_id) waiting)
 
 -- the slips of waiting blocks, in order of arrival
 abbrev pub slips_of : List Waiter → List Slip

@@ -1,7 +1,9 @@
 //! The room where blocks wait for their parents.
 #![tactic(auto)]
 
+mod children;
 mod holds;
+mod numbers;
 mod room;
 mod scans;
 #[cfg(test)]

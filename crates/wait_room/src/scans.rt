@@ -5,11 +5,13 @@ ghost use Rattle.std.specs.List.{All};
 ghost use Rattle.block_record.specs.declared.blocks.Slip.{Slip as SlipOf};
 ghost use Rattle.block_tree.specs.Places.{slip_at, slip_of};
 ghost use Rattle.relay_model.specs.Worlds.{lesser, next_waiting, room_bytes};
-ghost use Rattle.wait_room.specs.Rooms.{has_child, slips_of, waiting_of};
+ghost use Rattle.indexmap.specs.IndexSet.{insert_key, spare};
+ghost use Rattle.wait_room.specs.Keys.{same_key};
+ghost use Rattle.wait_room.specs.Rooms.{linked_in, slips_of, waiting_of};
 
 use crate::holds::Holds;
 use crate::waiters::Waiter;
-use block_record::{Id, Slip};
+use block_record::Slip;
 use indexmap::IndexSet;
 
 /// Of the blocks whose parents are held, where the one with the least number stands, among equals
@@ -26,6 +28,20 @@ pub fn least_linked<H: Holds>(waiters: &[Waiter], held: &H) -> Option<usize>
         }
     }
     best
+}
+
+/// The block at a place where its parent is held: it is the only one.
+pub fn only_linked<H: Holds>(waiters: &[Waiter], held: &H, at: usize) -> Option<usize>
+    requires range { at < length waiters.now }
+    requires one { linked_in (H.history held.now) (waiting_of waiters.now) ≡ 1 }
+    ensures least { IfSome result (λ found. slip_at (waiting_of waiters.now) found
+        ≡ next_waiting (H.history held.now) (waiting_of waiters.now)) }
+    ensures range { IfSome result (λ found. found < length waiters.now) }
+{
+    if !held.holds(&slip_in(waiters, at).parent_id) {
+        return None;
+    }
+    Some(at)
 }
 
 /// The one with the lesser number, and of two with one number the first.
@@ -63,27 +79,13 @@ pub fn bytes_of(waiters: &[Waiter]) -> u64
     bytes
 }
 
-/// The least number of a block that waits; the greatest of all numbers where none does.
-pub fn lowest_of(waiters: &[Waiter]) -> u64
-    ensures { All (λ w. result ≤ w.slip.num) waiters.now }
+/// Adds a waiting block for which there is memory.
+pub fn push_reserved(waiters: &mut IndexSet<Waiter>, waiter: Waiter)
+    requires { 0 < spare waiters.old }
+    ensures { waiters.new.keys ≡ insert_key same_key waiters.old.keys waiter }
 {
-    let mut lowest = u64::MAX;
-    for waiter in waiters {
-        lowest = lowest.min(waiter.slip.num);
-    }
-    lowest
-}
-
-/// Whether a waiting block names the id as its parent's.
-pub fn names_parent(waiters: &[Waiter], id: &Id) -> bool
-    ensures { result ≡ has_child (slips_of waiters.now) id.now }
-{
-    for waiter in waiters {
-        if waiter.slip.parent_id == *id {
-            return true;
-        }
-    }
-    false
+    // It takes no memory: there is room.
+    let _ = waiters.insert(waiter);
 }
 
 /// Removes the blocks with a number of at most `num`.

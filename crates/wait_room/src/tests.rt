@@ -25,6 +25,8 @@ enum Call {
     /// The tag of the block.
     Find(&'static str),
     Descendants(&'static str),
+    /// How many blocks name the id as their parent's.
+    Children(&'static str),
     /// 1 where a block names the id as its parent's, else 0.
     HasChild(&'static str),
     /// The tag of the block that is taken, where these blocks are held.
@@ -32,7 +34,9 @@ enum Call {
     DropThrough(u64),
 }
 
-use Call::{Blocks, Bytes as HeldBytes, Descendants, DropThrough, Find, Fits, HasChild, Put, Take};
+use Call::{
+    Blocks, Bytes as HeldBytes, Children, Descendants, DropThrough, Find, Fits, HasChild, Put, Take,
+};
 
 /// The calls of a room for 4 blocks and 10 bytes.
 const ROOM: &[(Call, Option<u64>)] = &[
@@ -51,12 +55,15 @@ const ROOM: &[(Call, Option<u64>)] = &[
     (Descendants("w4"), Some(2)),
     (Descendants("b2"), Some(2)),
     (Descendants("z6"), Some(0)),
+    (Children("b2"), Some(2)),
     (HasChild("x5"), Some(1)),
     (HasChild("z6"), Some(0)),
     (Take(&["a1"]), None),
     // The least number, and of two with one number the one that came first.
     (Take(&["w4", "b2"]), Some(2)),
+    (Children("b2"), Some(1)),
     (Take(&["w4", "b2"]), Some(3)),
+    (Children("b2"), Some(0)),
     (HeldBytes, Some(6)),
     (DropThrough(4), None),
     (Blocks, Some(2)),
@@ -113,6 +120,7 @@ fn answer(
         HeldBytes => Ok(Some(room.bytes())),
         Find(id) => find(rt, alloc, room, id),
         Descendants(id) => count(rt, alloc, room, id),
+        Children(id) => Ok(Some(room.children(&id_of(rt, alloc, id)?))),
         HasChild(id) => Ok(Some(u64::from(room.has_child(&id_of(rt, alloc, id)?)))),
         Take(ids) => take(rt, alloc, room, ids),
         DropThrough(num) => {
