@@ -1,14 +1,14 @@
 -- Facts of a waiting room: the slips of the blocks that wait, one more, and one fewer.
-use Rattle.std.proofs.Common.{arith, ◌≡◌, ◌<◌, ◌≤◌, ◌+◌, ◌-◌, ◌⊎◌, inl, inr, ℕ, zero, suc, Bool, true, false, not, ltb, leb, cond, IsTrue, ◌||◌, ◌&&◌, ◌++◌, Option, Some, None, List, [], ◌∷◌, map, reverse, length, refl, sym, ◌∙◌, ap, subst}
+use Rattle.std.proofs.Common.{arith, ◌≡◌, ◌<◌, ◌≤◌, ◌+◌, ◌-◌, ◌⊎◌, inl, inr, ℕ, zero, suc, Bool, true, false, not, ltb, leb, cond, IsTrue, ◌||◌, ◌&&◌, ◌++◌, Option, Some, None, IfSome, IsSome, List, [], ◌∷◌, map, reverse, length, refl, sym, ◌∙◌, ap, subst}
 use Rattle.std.specs.Arc.{arc_value}
-use Rattle.std.specs.List.{All, AllByRecursion, filter, find, remove, slice_get, list_any}
+use Rattle.std.specs.List.{All, AllByRecursion, AllZip, filter, find, remove, slice_get, list_any}
 use Rattle.std.specs.Option.{option_map, option_or}
 use Rattle.std.proofs.lemmas.Bool.{and_parts, cases_Bool, leb-true, le-leb, lt-ltb, or_parts, both_ways, false_from_ne_true}
 use Rattle.std.proofs.lemmas.List.{map-append, map-id, length_push}
 use Rattle.std.proofs.lemmas.List.Elements.{recursion_from_All, All-filter, All-push}
 use Rattle.std.proofs.lemmas.List.Folds.{find-append, list_any-append}
 use Rattle.std.proofs.lemmas.Bool.Decides.{leb_tells}
-use Rattle.std.proofs.lemmas.Option.{same_Some, slice_get-map}
+use Rattle.std.proofs.lemmas.Option.{same_Some}
 use Rattle.block_record.specs.declared.blocks.Block.{Block}
 use Rattle.block_record.specs.declared.blocks.Slip.{Slip}
 use Rattle.block_record.specs.Slips.{slip}
@@ -21,10 +21,10 @@ use Rattle.relay_model.proofs.Intakes.{distinct_filter}
 use Rattle.relay_model.specs.Worlds.{descendants, descends, room_bytes, without}
 use Rattle.relay_model.proofs.Sound.{swap_ids}
 use Rattle.wait_room.specs.declared.waiters.Waiter.{Waiter}
-use Rattle.wait_room.specs.Rooms.{slips_of, blocks_of, waiting_of, held_of, HasOwnSlip, Room, blocks_without, find_block, fits_in}
-use Rattle.wait_room.proofs.TurnedFacts.{all_from, all_of, filter_all, filter_turned, map_filter, map_turned, turned_cons, turned_push}
+use Rattle.wait_room.specs.Rooms.{slips_of, kept_of, kept_at, kept_beside, waiting_of, held_of, AreKept, HasOwnSlip, IsOwnSlip, Room, fits_in, room_where}
+use Rattle.wait_room.proofs.TurnedFacts.{all_from, all_of, all_turned, filter_all, filter_turned, map_filter, map_turned, turned_cons, turned_push}
 
-abbrev pub room_of : List Slip → List Block → ℕ → ℕ → Room
+abbrev pub room_of : List Slip → List (Option Block) → ℕ → ℕ → Room
 room_of w h b n = record { waiting = w; held = h; most_blocks = b; most_bytes = n }
 
 -- the test that keeps all but the block of an id
@@ -131,10 +131,58 @@ pub slips_filtered : (p : Waiter → Bool) (q : Slip → Bool) (xs : List Waiter
 slips_filtered p q xs agree =
     ap reverse (map_filter (λ (w : Waiter). w.slip) p q xs (all_of (λ w. p w ≡ q w.slip) agree xs)) ∙ sym (filter_turned q (slips_of xs))
 
--- the blocks that are left, by a filter of the blocks
-pub blocks_filtered : (p : Waiter → Bool) (q : Block → Bool) (xs : List Waiter) → AllByRecursion (λ w. p w ≡ q (arc_value w.block)) xs → held_of (filter p xs) ≡ filter q (held_of xs)
-blocks_filtered p q xs agree =
-    ap reverse (map_filter (λ (w : Waiter). arc_value w.block) p q xs agree) ∙ sym (filter_turned q (blocks_of xs))
+beside_each : (q : Slip → Bool) (xs : List Waiter) → map kept_of (filter (λ w. q w.slip) xs) ≡ kept_beside q (slips_of xs) (map kept_of xs)
+beside_each q [] = refl
+beside_each q (x ∷ xs) =
+    let P : Bool → Type 0 = λ b. map kept_of (cond b (x ∷ filter (λ w. q w.slip) xs) (filter (λ w. q w.slip) xs)) ≡ cond b (kept_of x ∷ kept_beside q (slips_of xs) (map kept_of xs)) (kept_beside q (slips_of xs) (map kept_of xs)) in
+    elim (q x.slip) as P [ true ↦ ap (λ l. kept_of x ∷ l) (beside_each q xs) | false ↦ beside_each q xs ]
+
+-- what is kept of the blocks that are left, by a filter of the slips
+pub held_filtered : (q : Slip → Bool) (xs : List Waiter) → held_of (filter (λ w. q w.slip) xs) ≡ kept_beside q (waiting_of xs) (held_of xs)
+held_filtered q xs =
+    sym (map_turned kept_of (filter (λ w. q w.slip) xs)) ∙ ap (map kept_of) (sym (filter_turned (λ (w : Waiter). q w.slip) xs)) ∙ beside_each q (reverse xs)
+    ∙ ap (λ l. kept_beside q l (map kept_of (reverse xs))) (map_turned (λ (w : Waiter). w.slip) xs) ∙ ap (kept_beside q (waiting_of xs)) (map_turned kept_of xs)
+
+kept_each : (xs : List Waiter) (id : List ℕ) → kept_at (slips_of xs) (map kept_of xs) id ≡ option_map kept_of (find (λ (w : Waiter). same_id w.slip.id id) xs)
+kept_each [] id = refl
+kept_each (x ∷ xs) id =
+    let P : Bool → Type 0 = λ b. cond b (Some (kept_of x)) (kept_at (slips_of xs) (map kept_of xs) id) ≡ option_map kept_of (cond b (Some x) (find (λ (w : Waiter). same_id w.slip.id id) xs)) in
+    elim (same_id x.slip.id id) as P [ true ↦ refl | false ↦ kept_each xs id ]
+
+-- what is kept beside an id is that of the waiting block with the id
+pub kept_found : (xs : List Waiter) (id : List ℕ) → IsDistinct (slips_of xs) → kept_at (waiting_of xs) (held_of xs) id ≡ option_map kept_of (find (λ (w : Waiter). same_id w.slip.id id) xs)
+kept_found xs id d =
+    ap (λ l. kept_at l (held_of xs) id) (sym (map_turned (λ (w : Waiter). w.slip) xs)) ∙ ap (λ l. kept_at (map (λ (w : Waiter). w.slip) (reverse xs)) l id) (sym (map_turned kept_of xs)) ∙ kept_each (reverse xs) id
+    ∙ ap (option_map kept_of) (find_turned (λ (w : Waiter). w.slip) xs id d)
+
+-- where each block is kept, each of those that are left is
+pub beside_kept : (q : Slip → Bool) (waiting : List Slip) (held : List (Option Block)) → AllByRecursion IsSome held → AllByRecursion IsSome (kept_beside q waiting held)
+beside_kept q [] held all = tt
+beside_kept q (s ∷ more) [] all = tt
+beside_kept q (s ∷ more) (kept ∷ held) all =
+    let P : Bool → Type 0 = λ b. AllByRecursion IsSome (cond b (kept ∷ kept_beside q more held) (kept_beside q more held)) in
+    elim (q s) as P [ true ↦ (all.0, beside_kept q more held all.1) | false ↦ beside_kept q more held all.1 ]
+
+pub where_kept : (q : Slip → Bool) (old new : Room) → new ≡ room_where q old → AreKept old → AreKept new
+where_kept q old new e all = subst AreKept (sym e) (beside_kept q old.waiting old.held all)
+
+found_some : (waiting : List Slip) (held : List (Option Block)) (id : List ℕ) (o : Option Block) → AllByRecursion IsSome held → kept_at waiting held id ≡ Some o → IsSome o
+found_some [] held id o all e = absurd (grind (arith, e))
+found_some (s ∷ more) [] id o all e = absurd (grind (arith, e))
+found_some (s ∷ more) (kept ∷ held) id o all e =
+    let P : Bool → Type 0 = λ b. cond b (Some kept) (kept_at more held id) ≡ Some o → IsSome o in
+    (elim (same_id s.id id) as P [
+      | true ↦ λ f. subst IsSome (same_Some kept o f) all.0
+      | false ↦ found_some more held id o all.1
+    ]) e
+
+some_mapped : {X Y : Type 0} (f : X → Y) (o : Option X) → IsSome (option_map f o) → IsSome o
+some_mapped f None h = h
+some_mapped f (Some x) h = refl
+
+-- and so is the one that is found
+pub found_kept : {X : Type 0} (f : X → Block) (waiting : List Slip) (held : List (Option Block)) (id : List ℕ) (o : Option X) → AllByRecursion IsSome held → kept_at waiting held id ≡ Some (option_map f o) → IsSome o
+found_kept f waiting held id o all e = some_mapped f o (found_some waiting held id (option_map f o) all e)
 
 -- an element is found by its id
 find_here : {X : Type 0} (key : X → Slip) (xs : List X) (i : ℕ) (w : X) → slice_get xs i ≡ Some w → IsDistinct (map key xs) → find (λ x. same_id (key x).id (key w).id) xs ≡ Some w
@@ -145,13 +193,19 @@ find_here key (x ∷ xs) (suc i) w e d =
     false_from_ne_true _ (λ same. both_ways _ d.0 (ap (has_id (map key xs)) (same_id-true (key x).id (key w).id same) ∙ has_at key xs i w e)) in
     rw other (find_here key xs i w e d.1)
 
--- each block has its slip
-own_each : (xs : List Waiter) → AllByRecursion HasOwnSlip xs → map slip (blocks_of xs) ≡ slips_of xs
-own_each [] own = refl
-own_each (x ∷ xs) own = rw (sym own.0, own_each xs own.1) refl
+own_each : (xs : List Waiter) → AllByRecursion HasOwnSlip xs → AllZip IsOwnSlip (slips_of xs) (map kept_of xs)
+own_each [] own = tt
+own_each (x ∷ xs) own = (own_kept arc_value x.slip x.block own.0, own_each xs own.1)
+  where
+    own_kept : {X : Type 0} (f : X → Block) (s : Slip) (o : Option X) → IfSome o (λ b. s ≡ slip (f b)) → IsOwnSlip s (option_map f o)
+    own_kept f s None h = h
+    own_kept f s (Some b) h = h
 
-pub own_slips : (xs : List Waiter) → All HasOwnSlip xs → map slip (held_of xs) ≡ waiting_of xs
-own_slips xs own = map_turned slip (blocks_of xs) ∙ ap reverse (own_each xs (recursion_from_All HasOwnSlip xs own))
+-- each block has its slip
+pub own_slips : (xs : List Waiter) → All HasOwnSlip xs → AllZip IsOwnSlip (waiting_of xs) (held_of xs)
+own_slips xs own =
+    subst (λ l. AllZip IsOwnSlip l (held_of xs)) (map_turned (λ (w : Waiter). w.slip) xs)
+    (subst (λ l. AllZip IsOwnSlip (map (λ (w : Waiter). w.slip) (reverse xs)) l) (map_turned kept_of xs) (own_each (reverse xs) (all_turned HasOwnSlip xs (recursion_from_All HasOwnSlip xs own))))
 
 -- what the key finds is the block of the id
 pub found_slip : (xs : List Waiter) (id : List ℕ) (o : Option Waiter) → o ≡ find (λ (w : Waiter). same_id id w.slip.id) xs → IsDistinct (slips_of xs)
@@ -175,14 +229,14 @@ put_last xs ys w e h = e ∙ ap (λ b. cond b xs (xs ++ w ∷ [])) (key_absent x
 pub waiting_push : (xs : List Waiter) (w : Waiter) → waiting_of (xs ++ w ∷ []) ≡ w.slip ∷ waiting_of xs
 waiting_push xs w = ap reverse (map-append (λ (x : Waiter). x.slip) xs (w ∷ [])) ∙ turned_push (slips_of xs) w.slip
 
-pub held_push : (xs : List Waiter) (w : Waiter) → held_of (xs ++ w ∷ []) ≡ arc_value w.block ∷ held_of xs
-held_push xs w = ap reverse (map-append (λ (x : Waiter). arc_value x.block) xs (w ∷ [])) ∙ turned_push (blocks_of xs) (arc_value w.block)
+pub held_push : (xs : List Waiter) (w : Waiter) → held_of (xs ++ w ∷ []) ≡ kept_of w ∷ held_of xs
+held_push xs w = ap reverse (map-append kept_of xs (w ∷ [])) ∙ turned_push (map kept_of xs) (kept_of w)
 
 -- the room without the block at an index
 pub record IsTakenOut (xs : List Waiter) (i : ℕ) (w : Waiter) : Type 0 where
   pub waiting : waiting_of (remove xs i) ≡ without w.slip (waiting_of xs)
-  pub held : held_of (remove xs i) ≡ blocks_without w.slip (held_of xs)
-  pub block : find_block (held_of xs) w.slip.id ≡ Some (arc_value w.block)
+  pub held : held_of (remove xs i) ≡ kept_beside (λ s. not (same_id s.id w.slip.id)) (waiting_of xs) (held_of xs)
+  pub block : kept_at (waiting_of xs) (held_of xs) w.slip.id ≡ Some (kept_of w)
   pub distinct : IsDistinct (slips_of (remove xs i))
   pub mine : HasOwnSlip w
 
@@ -191,20 +245,14 @@ all_removed P xs i w e d all = subst (All P) (sym (removed_is xs i w e d)) (All-
 
 pub taken_out : (xs : List Waiter) (i : ℕ) (w : Waiter) → slice_get xs i ≡ Some w → IsDistinct (slips_of xs) → All HasOwnSlip xs → IsTakenOut xs i w
 taken_out xs i w e d all =
-    let own = recursion_from_All HasOwnSlip xs all in
     let id = w.slip.id in
     let left = removed_is xs i w e d in
-    let mine : w.slip ≡ slip (arc_value w.block) = own_at xs i w e own in
-    let blocks : IsDistinct (map slip (blocks_of xs)) = subst IsDistinct (sym (own_each xs own)) d in
-    let at : slice_get (blocks_of xs) i ≡ Some (arc_value w.block) = slice_get-map (λ (x : Waiter). arc_value x.block) xs i ∙ ap (option_map (λ (x : Waiter). arc_value x.block)) e in
     record {
       waiting = ap waiting_of left ∙ slips_filtered (is_other id) (λ s. not (same_id s.id id)) xs (λ _. refl);
-      held = ap held_of left
-          ∙ blocks_filtered (is_other id) (λ b. not (same_id b.id id)) xs
-          (all_from HasOwnSlip (λ x. is_other id x ≡ not (same_id (arc_value x.block).id id)) (λ x o. ap (λ (s : Slip). not (same_id s.id id)) o) xs own);
-      block = ap (λ (s : Slip). find_block (held_of xs) s.id) mine ∙ find_turned slip (blocks_of xs) (arc_value w.block).id blocks ∙ find_here slip (blocks_of xs) i (arc_value w.block) at blocks;
+      held = ap held_of left ∙ held_filtered (λ s. not (same_id s.id id)) xs;
+      block = kept_found xs id d ∙ ap (option_map kept_of) (find_here (λ (x : Waiter). x.slip) xs i w e d);
       distinct = subst IsDistinct (sym (ap slips_of left ∙ map_filter (λ (x : Waiter). x.slip) (is_other id) (λ s. not (same_id s.id id)) xs (all_of (λ x. is_other id x ≡ is_other id x) (λ _. refl) xs))) (distinct_filter (λ s. not (same_id s.id id)) (slips_of xs) d);
-      mine = mine;
+      mine = own_at xs i w e (recursion_from_All HasOwnSlip xs all);
     }
   where
     own_at : (ys : List Waiter) (j : ℕ) (x : Waiter) → slice_get ys j ≡ Some x → AllByRecursion HasOwnSlip ys → HasOwnSlip x
@@ -236,10 +284,8 @@ fits_not room n m len n_is m_is more = sym (ap (λ b. b && leb (room_bytes room.
 pub above_waiting : (num : ℕ) (xs : List Waiter) → waiting_of (filter (λ w. ltb num w.slip.num) xs) ≡ filter (λ s. ltb num s.num) (waiting_of xs)
 above_waiting num xs = slips_filtered (λ w. ltb num w.slip.num) (λ s. ltb num s.num) xs (λ _. refl)
 
-pub above_held : (num : ℕ) (xs : List Waiter) → All HasOwnSlip xs → held_of (filter (λ w. ltb num w.slip.num) xs) ≡ filter (λ b. ltb num b.num) (held_of xs)
-above_held num xs own =
-    blocks_filtered (λ w. ltb num w.slip.num) (λ b. ltb num b.num) xs
-    (all_from HasOwnSlip (λ x. ltb num x.slip.num ≡ ltb num (arc_value x.block).num) (λ x o. ap (λ (s : Slip). ltb num s.num) o) xs (recursion_from_All HasOwnSlip xs own))
+pub above_held : (num : ℕ) (xs : List Waiter) → held_of (filter (λ w. ltb num w.slip.num) xs) ≡ kept_beside (λ s. ltb num s.num) (waiting_of xs) (held_of xs)
+above_held num xs = held_filtered (λ s. ltb num s.num) xs
 
 pub above_slips : (num : ℕ) (xs : List Waiter) → slips_of (filter (λ w. ltb num w.slip.num) xs) ≡ filter (λ s. ltb num s.num) (slips_of xs)
 above_slips num xs = map_filter (λ (w : Waiter). w.slip) (λ w. ltb num w.slip.num) (λ s. ltb num s.num) xs (all_of (λ w. ltb num w.slip.num ≡ ltb num w.slip.num) (λ _. refl) xs)
@@ -261,7 +307,7 @@ bytes_filtered p (x ∷ xs) =
     let Q : Bool → Type 0 = λ b. room_bytes (cond b (x ∷ filter p xs) (filter p xs)) ≤ room_bytes (x ∷ xs) in
     elim (p x) as Q [ true ↦ omega (arith, bytes_filtered p xs) | false ↦ omega (arith, bytes_filtered p xs) ]
 
-pub same_room : (w v : List Slip) (h k : List Block) (b n : ℕ) → w ≡ v → h ≡ k → room_of w h b n ≡ room_of v k b n
+pub same_room : (w v : List Slip) (h k : List (Option Block)) (b n : ℕ) → w ≡ v → h ≡ k → room_of w h b n ≡ room_of v k b n
 same_room w v h k b n e f = rw (e, f) refl
 
 -- of the parents that are searched for, the one with the id
@@ -336,7 +382,7 @@ no_descendants room id h = each room h
 -- the room with one more block
 pub record IsPutIn (xs ys : List Waiter) (w : Waiter) : Type 0 where
   pub waiting : waiting_of ys ≡ w.slip ∷ waiting_of xs
-  pub held : held_of ys ≡ arc_value w.block ∷ held_of xs
+  pub held : held_of ys ≡ kept_of w ∷ held_of xs
   pub distinct : IsDistinct (slips_of ys)
   pub own : All HasOwnSlip ys
   pub bytes : room_bytes (slips_of ys) ≡ room_bytes (slips_of xs) + w.slip.length

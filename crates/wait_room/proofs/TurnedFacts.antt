@@ -1,5 +1,5 @@
 -- Lists turned over, filters of a map, and what is taken out of a list.
-use Rattle.std.proofs.Common.{◌≡◌, ◌<◌, ◌+◌, ℕ, Bool, true, false, cond, List, [], ◌∷◌, ◌++◌, map, reverse, length, take, get_or, refl, sym, ◌∙◌, ap}
+use Rattle.std.proofs.Common.{◌≡◌, ◌<◌, ◌+◌, ℕ, Bool, true, false, cond, List, [], ◌∷◌, ◌++◌, map, reverse, length, take, get_or, refl, sym, ◌∙◌, ap, subst}
 use Rattle.std.specs.List.{AllByRecursion, filter}
 use Rattle.std.proofs.lemmas.List.{append-nil, map-append, reverse-append, take_more}
 use Rattle.std.proofs.lemmas.List.Elements.{filter-append}
@@ -53,3 +53,12 @@ all_from P Q f (x ∷ xs) all = (f x all.0, all_from P Q f xs all.1)
 pub all_unmapped : {X Y : Type 0} (P : Y → Type 0) (f : X → Y) (xs : List X) → AllByRecursion P (map f xs) → AllByRecursion (λ x. P (f x)) xs
 all_unmapped P f [] all = tt
 all_unmapped P f (x ∷ xs) all = (all.0, all_unmapped P f xs all.1)
+
+all_push : {X : Type 0} (P : X → Type 0) (ys : List X) (y : X) → AllByRecursion P ys → P y → AllByRecursion P (ys ++ y ∷ [])
+all_push P [] y each one = (one, tt)
+all_push P (z ∷ ys) y each one = (each.0, all_push P ys y each.1 one)
+
+-- what holds of each element holds from the other end
+pub all_turned : {X : Type 0} (P : X → Type 0) (xs : List X) → AllByRecursion P xs → AllByRecursion P (reverse xs)
+all_turned P [] all = tt
+all_turned P (x ∷ xs) all = subst (AllByRecursion P) (sym (turned_cons x xs)) (all_push P (reverse xs) x (all_turned P xs all.1) all.0)

@@ -1,6 +1,7 @@
 //! The room.
 
-ghost use Rattle.std.specs.Prelude.{◌≡◌, ◌<◌, ◌≤◌, ◌^◌, [], map, length, IfOk, IfSome, OnOk, OnErr, IsTrue, Some, false};
+ghost use Rattle.std.specs.Prelude.{◌≡◌, ◌<◌, ◌≤◌, ◌^◌, [], length, IfOk, IfSome, IsSome, OnOk, OnErr, IsTrue, Some, false};
+ghost use Rattle.std.specs.List.{AllZip};
 ghost use Rattle.std.specs.Option.{option_copied, option_map};
 ghost use Rattle.block_record.specs.declared.blocks.Slip.{Slip as SlipOf};
 ghost use Rattle.block_record.specs.Slips.{slip as slip_of_block};
@@ -8,7 +9,7 @@ ghost use Rattle.chain_model.specs.Ancestry.{find_id, has_id};
 ghost use Rattle.relay_model.specs.Soundness.{IsDistinct};
 ghost use Rattle.relay_model.specs.Worlds.{descendants as descendants_in, descends as descends_in, next_waiting, room_bytes};
 ghost use Rattle.block_tree.specs.Places.{slip_at};
-ghost use Rattle.wait_room.specs.Rooms.{find_block, fits_in, has_child as has_child_in, room_above, room_without, with_block};
+ghost use Rattle.wait_room.specs.Rooms.{AreKept, IsOwnSlip, find_block, fits_in, has_child as has_child_in, room_above, room_without, with_block};
 
 use crate::holds::Holds;
 use crate::scans::{bytes_of, keep_above, least_linked, lowest_of, names_parent};
@@ -19,8 +20,8 @@ use std::alloc::{AllocError, Global};
 use std::marker::Model;
 use std::sync::Arc;
 
-/// Blocks that wait for their parents. Contracts see the slips and the blocks, the latest arrival
-/// first, and the two limits.
+/// Blocks that wait for their parents. Contracts see their slips and beside each the block, where it
+/// is kept, the latest arrival first, and the two limits.
 #[derive(Drop)]
 pub struct WaitRoom {
     waiters: IndexSet<Waiter>,
@@ -78,7 +79,7 @@ impl WaitRoom {
         ensures count { result ≡ length self.now.waiting }
         ensures limit { result ≤ self.now.most_blocks }
         ensures small { result < 2 ^ 63 }
-        ensures own { map slip_of_block self.now.held ≡ self.now.waiting }
+        ensures own { AllZip IsOwnSlip self.now.waiting self.now.held }
         ensures distinct { IsDistinct self.now.waiting }
     {
         self.waiters.len() as u64
@@ -157,13 +158,15 @@ impl WaitRoom {
         false
     }
 
-    /// Lets a block wait. At an error nothing has changed.
-    pub fn put(&mut self, slip: Slip, block: Arc<Block>) -> Result<(), AllocError>
+    /// Lets a block wait, by its slip alone where it is not given. At an error nothing has changed.
+    pub fn put(&mut self, slip: Slip, block: Option<Arc<Block>>) -> Result<(), AllocError>
         requires fits { IsTrue (fits_in self.old slip.length) }
-        requires own { slip ≡ slip_of_block block.value }
+        requires own { IfSome block (λ b. slip ≡ slip_of_block b.value) }
         requires fresh { has_id self.old.waiting slip.id ≡ false }
-        ensures ok { OnOk result (self.new ≡ with_block self.old slip block.value) }
+        ensures ok { OnOk result
+            (self.new ≡ with_block self.old slip (option_map (λ b. b.value) block)) }
         ensures err { OnErr result (self.new ≡ self.old) }
+        ensures kept { OnOk result (AreKept self.old → IsSome block → AreKept self.new) }
     {
         let bytes = self.bytes + u64::from(slip.length);
         let lowest = self.lowest.min(slip.num);
@@ -175,25 +178,28 @@ impl WaitRoom {
 
     /// Takes out, of the blocks whose parents are held, the one with the least number, among equals
     /// the earliest.
-    pub fn take_next<H: Holds>(&mut self, held: &H) -> Option<(Slip, Arc<Block>)>
+    pub fn take_next<H: Holds>(&mut self, held: &H) -> Option<(Slip, Option<Arc<Block>>)>
         ensures next { option_map (λ p. p.0) result
             ≡ next_waiting (H.history held.now) self.old.waiting }
-        ensures own { IfSome result (λ p. p.0 ≡ slip_of_block p.1.value) }
+        ensures own { IfSome result (λ p. IfSome p.1 (λ b. p.0 ≡ slip_of_block b.value)) }
         ensures block { IfSome result
-            (λ p. find_block self.old.held p.0.id ≡ Some p.1.value) }
+            (λ p. find_block self.old p.0.id ≡ Some (option_map (λ b. b.value) p.1)) }
         ensures room { self.new
             ≡ room_without self.old (next_waiting (H.history held.now) self.old.waiting) }
+        ensures kept { AreKept self.old → AreKept self.new }
+        ensures given { AreKept self.old → IfSome result (λ p. IsSome p.1) }
     {
         let at = least_linked(self.waiters.as_slice(), held)?;
         Some(self.take_at(at))
     }
 
     /// Takes out the block at a place.
-    fn take_at(&mut self, at: usize) -> (Slip, Arc<Block>)
+    fn take_at(&mut self, at: usize) -> (Slip, Option<Arc<Block>>)
         requires { at < length self.old.waiting }
         ensures slip { slip_at self.old.waiting at ≡ Some result.0 }
-        ensures own { result.0 ≡ slip_of_block result.1.value }
-        ensures block { find_block self.old.held result.0.id ≡ Some result.1.value }
+        ensures own { IfSome result.1 (λ b. result.0 ≡ slip_of_block b.value) }
+        ensures block { find_block self.old result.0.id
+            ≡ Some (option_map (λ b. b.value) result.1) }
         ensures room { self.new ≡ room_without self.old (Some result.0) }
     {
         let Waiter { slip, block } = self.waiters.shift_remove_index(at).unwrap();
@@ -203,7 +209,8 @@ impl WaitRoom {
 
     /// Removes the blocks with a number of at most `num`.
     pub fn drop_through(&mut self, num: u64)
-        ensures { self.new ≡ room_above num self.old }
+        ensures room { self.new ≡ room_above num self.old }
+        ensures kept { AreKept self.old → AreKept self.new }
     {
         if num < self.lowest {
             return;

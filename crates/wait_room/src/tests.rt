@@ -135,7 +135,7 @@ fn put(
     match room.find(&slip.id) {
         Some(held) => Ok(Some(held.time)),
         None => {
-            room.put(slip, block)?;
+            room.put(slip, Some(block))?;
             Ok(None)
         }
     }

@@ -5,11 +5,11 @@ use indexmap::Equivalent;
 use std::hash::{Hash, Hasher};
 use std::sync::Arc;
 
-/// A waiting block with its slip. Two are equal where their ids are.
+/// The slip of a waiting block, and the block where it is kept. Two are equal where their ids are.
 #[derive(Drop)]
 pub struct Waiter {
     pub slip: Slip,
-    pub block: Arc<Block>,
+    pub block: Option<Arc<Block>>,
 }
 
 impl PartialEq for Waiter {

@@ -1,12 +1,12 @@
-use Rattle.std.proofs.Common.{◌≡◌, map, subst}
-use Rattle.block_record.specs.Slips.{slip}
+use Rattle.std.proofs.Common.{subst}
+use Rattle.std.specs.List.{AllZip}
 use Rattle.relay_model.specs.Soundness.{IsDistinct}
-use Rattle.wait_room.specs.Rooms.{Room}
+use Rattle.wait_room.specs.Rooms.{IsOwnSlip, Room}
 use Rattle.wait_room.proofs.RoomFacts.{distinct_turned, own_slips}
 use Rattle.wait_room.proofs.room.WaitRoom.blocks.Goals as goal
 
 pub returns-clause-own : goal.returns-clause-own
-returns-clause-own c = subst (λ (v : Room). map slip v.held ≡ v.waiting) c.self.view_is (own_slips _ c.self.invariant.1)
+returns-clause-own c = subst (λ (v : Room). AllZip IsOwnSlip v.waiting v.held) c.self.view_is (own_slips _ c.self.invariant.1)
 
 pub returns-clause-distinct : goal.returns-clause-distinct
 returns-clause-distinct c = subst (λ (v : Room). IsDistinct v.waiting) c.self.view_is (distinct_turned _ c.self.invariant.0)

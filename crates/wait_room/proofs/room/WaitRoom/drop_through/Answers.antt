@@ -7,15 +7,15 @@ use Rattle.relay_model.specs.Worlds.{room_bytes}
 use Rattle.relay_model.proofs.Intakes.{distinct_filter}
 use Rattle.wait_room.specs.declared.waiters.Waiter.{Waiter}
 use Rattle.wait_room.specs.Rooms.{HasOwnSlip, room_above, slips_of, waiting_of, held_of}
-use Rattle.wait_room.proofs.RoomFacts.{above_held, above_waiting, above_slips, bytes_filtered, length_filtered, none_below, same_room}
+use Rattle.wait_room.proofs.RoomFacts.{above_held, above_waiting, above_slips, bytes_filtered, length_filtered, none_below, same_room, where_kept}
 use Rattle.wait_room.proofs.room.WaitRoom.drop_through.Goals as goal
 
-pub returns-then-num-self : goal.returns-then-num-self
-returns-then-num-self c =
+pub returns-then-num-self-clause-room : goal.returns-then-num-self-clause-room
+returns-then-num-self-clause-room c =
     let keys = c.self.inside.waiters.keys in
     let all = none_below c.args.num c.self.inside.lowest keys c.if-num-self.true c.self.invariant.2 in
     sym c.self.view_is
-    ∙ same_room _ _ _ _ _ _ (sym (ap waiting_of all) ∙ above_waiting c.args.num keys) (sym (ap held_of all) ∙ above_held c.args.num keys c.self.invariant.1)
+    ∙ same_room _ _ _ _ _ _ (sym (ap waiting_of all) ∙ above_waiting c.args.num keys) (sym (ap held_of all) ∙ above_held c.args.num keys)
     ∙ ap (room_above c.args.num) c.self.view_is
 
 pub bytes_of-self-inside-requires : goal.bytes_of-self-inside-requires
@@ -38,9 +38,12 @@ invariant_of-self c =
       omega (arith, ap length left, length_filtered (λ (w : Waiter). ltb c.args.num w.slip.num) keys, c.self.invariant.5),
     )
 
-pub returns : goal.returns
-returns c =
+pub returns-clause-room : goal.returns-clause-room
+returns-clause-room c =
     let keys = c.self.inside.waiters.keys in
     let left = c.keep_above.ensures in
-    same_room _ _ _ _ _ _ (ap waiting_of left ∙ above_waiting c.args.num keys) (ap held_of left ∙ above_held c.args.num keys c.self.invariant.1)
+    same_room _ _ _ _ _ _ (ap waiting_of left ∙ above_waiting c.args.num keys) (ap held_of left ∙ above_held c.args.num keys)
     ∙ ap (room_above c.args.num) c.self.view_is
+
+pub returns-clause-kept : goal.returns-clause-kept
+returns-clause-kept c = where_kept (λ (s : Slip). ltb c.args.num s.num) c.args.self.now _ (returns-clause-room c)

@@ -1,4 +1,6 @@
 use Rattle.std.proofs.Common.{arith, ◌≡◌, ◌≤◌, ap, sym, ◌∙◌, false, subst, length}
+use Rattle.std.specs.Arc.{arc_value}
+use Rattle.std.specs.Option.{option_map}
 use Rattle.std.proofs.lemmas.List.{length-map, length-reverse}
 use Rattle.std.proofs.lemmas.List.Elements.{All-weaker}
 use Rattle.chain_model.specs.Ancestry.{has_id}
@@ -38,4 +40,4 @@ returns-clause-ok c =
     let w : Waiter = record { slip = c.args.slip; block = c.args.block } in
     let fresh = subst (λ (v : Room). has_id v.waiting c.args.slip.id ≡ false) (sym c.self.view_is) c.requires.fresh in
     let is = put_in _ _ w c.in_ok-insert.ensures.keys fresh c.self.invariant.0 c.self.invariant.1 c.requires.own in
-    same_room _ _ _ _ _ _ is.waiting is.held ∙ ap (λ (v : Room). with_block v c.args.slip c.args.block.value) c.self.view_is
+    same_room _ _ _ _ _ _ is.waiting is.held ∙ ap (λ (v : Room). with_block v c.args.slip (option_map arc_value c.args.block)) c.self.view_is

@@ -45,7 +45,7 @@ returns-clause-own c =
 pub returns-clause-block : goal.returns-clause-block
 returns-clause-block c =
     let at = sym c.shift_remove_index.ensures.key ∙ c.unwrap-slip.ensures in
-    ap (λ (v : Room). find_block v.held c.unwrap-slip.result.slip.id) (sym c.self.view_is) ∙ (taken_out _ _ _ at c.self.invariant.0 c.self.invariant.1).block
+    ap (λ (v : Room). find_block v c.unwrap-slip.result.slip.id) (sym c.self.view_is) ∙ (taken_out _ _ _ at c.self.invariant.0 c.self.invariant.1).block
 
 pub returns-clause-room : goal.returns-clause-room
 returns-clause-room c =
