@@ -3,3 +3,4 @@ pub mod Judged
 pub mod Chronicle
 pub mod Taking
 pub mod Done
+pub mod Held

@@ -1,6 +1,7 @@
 //! The relay.
 
 ghost use Rattle.std.specs.Prelude.{◌++◌, drop, map, take, Option, ◌≡◌, ◌<◌, ◌≤◌, ◌+◌, ◌^◌, ◌∷◌, [], length, replicate, reverse, vec_len, vec_capacity, ℕ, List, Err, None, false, true, IsTrue, IfOk, IfSome, OnErr, OnOk, Some};
+ghost use Rattle.std.specs.List.{AllByRecursion};
 ghost use Rattle.std.specs.Option.{is_some, option_copied, option_map, option_or};
 ghost use Rattle.block_record.specs.Slips.{slip as slip_of_block};
 ghost use Rattle.block_tree.specs.Places.{slip_at};
@@ -16,6 +17,7 @@ ghost use Rattle.relay_model.specs.Soundness.{IsBlock, IsSound};
 ghost use Rattle.block_relay.specs.Chronicle.{closed_entries, greeted, kind_entry, kind_mark, limits_told, may_greet, world_told};
 ghost use Rattle.block_relay.specs.Answers.{IsAnswer, is_mem};
 ghost use Rattle.block_relay.specs.Done.{IsDone};
+ghost use Rattle.block_relay.specs.Held.{HasBlock};
 ghost use Rattle.block_relay.specs.Judged.{verdict_of_judged};
 
 use crate::answers::{KindFault, OfferFault, Offered};
@@ -219,7 +221,8 @@ impl Relay {
 
     /// Appends the steps of a batch from an index, at most `max`, each with its slip, its block where
     /// it is still held, and the place after it: none where the index is at or past their end. The
-    /// history may have grown since the batch was given. At an error `out` is as it was.
+    /// history may have grown since the batch was given. A relay that keeps payloads holds each block.
+    /// At an error `out` is as it was.
     pub fn chunk(
         &self,
         batch: &Batch,
@@ -232,6 +235,9 @@ impl Relay {
             → IsGiven (world_told self.now).history older mode stop batch.now
             → OnOk result (map item_seen out.new.items ≡ map item_seen out.old.items
             ++ take max (drop from (steps_to older batch.now.place mode stop))) }
+        ensures held { self.now.payloads ≡ Payloads.Kept
+            → OnOk result (AllByRecursion (HasBlock (world_told self.now).history)
+            (drop (length out.old.items) out.new.items)) }
         ensures err { OnErr result (out.new.items ≡ out.old.items) }
     {
         self.db.chunk(batch, from, max, out)
