@@ -6,13 +6,13 @@ use Rattle.std.proofs.lemmas.List.{length-reverse, map-append, drop_more, take_m
 use Rattle.std.proofs.lemmas.List.Elements.{filter-append}
 use Rattle.std.proofs.lemmas.Option.{same_Some}
 use Rattle.block_record.specs.declared.blocks.Slip.{Slip}
-use Rattle.block_record.specs.Ids.{same_id, same_id_refl, same_id-true}
+use Rattle.block_record.specs.Ids.{same_id}
 use Rattle.wait_room.specs.declared.waiters.Waiter.{Waiter}
 use Rattle.indexmap.specs.IndexSet.{insert_key}
 use Rattle.chain_model.specs.Ancestry.{has_id}
 use Rattle.wait_room.specs.Keys.{same_key}
 use Rattle.wait_room.specs.Rooms.{children_in, slips_of, waiting_of}
-use Rattle.wait_room.proofs.RoomFacts.{length_filtered, put_last}
+use Rattle.wait_room.proofs.RoomFacts.{put_last}
 use Rattle.wait_room.proofs.TurnedFacts.{filter_turned}
 
 -- what is counted where one count was put

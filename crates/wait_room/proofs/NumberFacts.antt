@@ -1,5 +1,5 @@
 -- Facts of the numbers of waiting blocks.
-use Rattle.std.proofs.Common.{arith, ◌≡◌, ◌<◌, ◌≤◌, ◌+◌, ℕ, Bool, true, false, ltb, Some, None, List, [], ◌∷◌, length, refl, sym, ◌∙◌, ap, subst, filter, is_some, inl, inr, cond, Option}
+use Rattle.std.proofs.Common.{arith, ◌≡◌, ◌<◌, ◌≤◌, ◌+◌, ℕ, true, false, ltb, Some, None, List, [], ◌∷◌, refl, sym, ap, filter, is_some, cond, Option}
 use Rattle.std.specs.declared.cmp.Ordering.{Ordering}
 use Rattle.std.specs.declared.cmp.Ordering.TheVariants.{Less, Equal, Greater}
 use Rattle.std.specs.Ordering.{MatchOrdering, is_eq, is_gt, nat_cmp}

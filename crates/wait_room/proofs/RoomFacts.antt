@@ -3,7 +3,7 @@ use Rattle.std.proofs.Common.{arith, ◌≡◌, ◌<◌, ◌≤◌, ◌+◌, ◌
 use Rattle.std.specs.Arc.{arc_value}
 use Rattle.std.specs.List.{All, AllByRecursion, AllZip, filter, find, remove, slice_get, list_any}
 use Rattle.std.specs.Option.{option_map, option_or}
-use Rattle.std.proofs.lemmas.Bool.{and_parts, cases_Bool, leb-true, le-leb, lt-ltb, or_parts, both_ways, false_from_ne_true}
+use Rattle.std.proofs.lemmas.Bool.{and_parts, cases_Bool, leb-true, le-leb, or_parts, both_ways, false_from_ne_true}
 use Rattle.std.proofs.lemmas.List.{map-append, map-id, length_push}
 use Rattle.std.proofs.lemmas.List.Elements.{recursion_from_All, All-filter, All-push}
 use Rattle.std.proofs.lemmas.List.Folds.{find-append, list_any-append}
@@ -22,7 +22,7 @@ use Rattle.relay_model.specs.Worlds.{descendants, descends, room_bytes, without}
 use Rattle.relay_model.proofs.Sound.{swap_ids}
 use Rattle.wait_room.specs.declared.waiters.Waiter.{Waiter}
 use Rattle.wait_room.specs.Rooms.{slips_of, kept_of, kept_at, kept_beside, waiting_of, held_of, AreKept, HasOwnSlip, IsOwnSlip, Room, fits_in, room_where}
-use Rattle.wait_room.proofs.TurnedFacts.{all_from, all_of, all_turned, filter_all, filter_turned, map_filter, map_turned, turned_cons, turned_push}
+use Rattle.wait_room.proofs.TurnedFacts.{all_of, all_turned, filter_all, filter_turned, map_filter, map_turned, turned_cons, turned_push}
 
 abbrev pub room_of : List Slip → List (Option Block) → ℕ → ℕ → Room
 room_of w h b n = record { waiting = w; held = h; most_blocks = b; most_bytes = n }

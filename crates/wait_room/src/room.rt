@@ -88,7 +88,7 @@ impl WaitRoom {
         }
     }
 
-    /// How many blocks wait. Each has its own slip, and no two have one id.
+    /// How many blocks wait. Each that is kept has its own slip, and no two have one id.
     pub fn blocks(&self) -> u64
         ensures count { result ≡ length self.now.waiting }
         ensures limit { result ≤ self.now.most_blocks }

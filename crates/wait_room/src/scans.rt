@@ -1,7 +1,6 @@
 //! Scans of the waiting blocks, in order of arrival.
 
-ghost use Rattle.std.specs.Prelude.{◌≡◌, ◌<◌, ◌≤◌, ◌^◌, length, filter, nat_lt, IfSome, Some};
-ghost use Rattle.std.specs.List.{All};
+ghost use Rattle.std.specs.Prelude.{◌≡◌, ◌<◌, ◌^◌, length, filter, nat_lt, IfSome, Some};
 ghost use Rattle.block_record.specs.declared.blocks.Slip.{Slip as SlipOf};
 ghost use Rattle.block_tree.specs.Places.{slip_at, slip_of};
 ghost use Rattle.relay_model.specs.Worlds.{lesser, next_waiting, room_bytes};

@@ -1,4 +1,4 @@
-use Rattle.std.proofs.Common.{arith, ◌≤◌, length, ap, sym, ◌∙◌, ltb, subst, filter}
+use Rattle.std.proofs.Common.{arith, length, ap, sym, ◌∙◌, ltb, subst, filter}
 use Rattle.std.specs.List.{All}
 use Rattle.std.proofs.lemmas.List.Elements.{All-filter}
 use Rattle.block_record.specs.declared.blocks.Slip.{Slip}
