@@ -1,15 +1,15 @@
--- Runs of the command `cursor`.
+-- Runs of the command `cursor`, and of words that name no command.
 use Rattle.std.proofs.Common.{◌≡◌, ◌⊎◌, ℕ, Bool, false, List, [], Option, None, Some, Result, Ok, Err, refl, sym, subst, inl, inr, arith}
 use Rattle.std.specs.Result.{is_err, MatchResult}
 use Rattle.std.specs.Str.{IsUtf8}
 use Rattle.std.proofs.lemmas.List.{append-nil}
 use Rattle.outer_world.specs.Causes.{Rose}
 use Rattle.outer_world.specs.Told.{Grows, GrowsByFront, Took}
-use Rattle.fire_tool.specs.Runs.{Streams, flow, streams}
+use Rattle.fire_tool.specs.Runs.{Misused, Runs, Streams, flow, steps_first, streams}
 use Rattle.fire_tool.specs.CursorCommand.{cursor_value, CursorAnswered, CursorRun, RunsCommand, RunsPlain}
 
 -- nothing was taken of a source
-took_nothing : (left given : Option (List ℕ)) → Took left left given given []
+pub took_nothing : (left given : Option (List ℕ)) → Took left left given given []
 took_nothing None None = record { first = tt; last = tt }
 took_nothing None (Some ys) = record { first = tt; last = sym (append-nil ys) }
 took_nothing (Some xs) None = record { first = refl; last = tt }
@@ -55,3 +55,12 @@ answered_line text line sent left given w w' e e' faults wf wf' ef ef' status ut
 -- a run of the command that the words name
 pub command_run : (words : List (List ℕ)) (text : List ℕ) (before after : Streams) (status : ℕ) → Some text ≡ cursor_value words → CursorRun text before after status → RunsPlain words before after status
 command_run words text before after status named run = subst (λ value. RunsCommand value words before after status) named run
+
+-- a run of other words
+pub other_run : (words : List (List ℕ)) (first : Option ℕ) (before after : Streams) (status : ℕ) → None ≡ cursor_value words → first ≡ steps_first words → Runs first before after status → RunsPlain words before after status
+other_run words first before after status named is run =
+    subst (λ value. RunsCommand value words before after status) named (subst (λ n. Runs n before after status) is run)
+
+-- so is one of words that name no command
+pub misused_run : (first : Option ℕ) (before after : Streams) (status : ℕ) → first ≡ None → Misused before after status → Runs first before after status
+misused_run first before after status is run = subst (λ n. Runs n before after status) (sym is) run

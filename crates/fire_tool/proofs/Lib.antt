@@ -1,4 +1,3 @@
-pub mod JudgeFacts
 pub mod TellFacts
 pub mod ProgressFacts
 pub mod StepsFacts

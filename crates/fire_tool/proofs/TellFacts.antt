@@ -1,42 +1,86 @@
 -- Following the head.
-use Rattle.std.proofs.Common.{arith, ◌≡◌, ◌≤◌, ◌+◌, ◌++◌, ℕ, List, [], ◌∷◌, length, Option, Some, None, refl, sym, ◌∙◌, ap, subst, map, take, drop, append_assoc, option_and_then, suc, zero, Bool, true, false, is_some, Result, Ok, Err, OnOk}
+use Rattle.std.proofs.Common.{arith, ◌≡◌, ◌≤◌, ◌+◌, ◌++◌, ℕ, List, [], ◌∷◌, length, Option, Some, None, refl, sym, ◌∙◌, ap, subst, map, take, drop, append_assoc, option_and_then, suc, zero, Bool, true, false, is_some, Result, Ok, Err}
 use Rattle.std.specs.List.{slice_get}
 use Rattle.std.specs.Option.{option_map}
 use Rattle.std.proofs.lemmas.List.{append-nil, map-append}
 use Rattle.std.proofs.Math.Seq.{take-length}
 use Rattle.std.proofs.lemmas.List.Concat.{flat_map-append}
 use Rattle.std.proofs.lemmas.Option.{same_Some}
-use Rattle.chain_model.specs.declared.places.Mode.{Mode}
-use Rattle.chain_model.specs.Steps.{BlockStep, block_step, plain_of, steps_of}
-use Rattle.block_tree.specs.Places.{slip_at}
-use Rattle.fork_db.specs.declared.batches.Batch.{Batch}
-use Rattle.fork_db.specs.declared.chunks.StepAt.{StepAt}
-use Rattle.fork_db.specs.Batches.{IsGiven, WasGiven, step_seen}
-use Rattle.step_text.specs.declared.offers.Verdict.{Verdict as Answer}
-use Rattle.step_text.specs.declared.offers.Verdict.TheVariants.{Admitted, Duplicate, Unlinked, Contradicts, HistoryFull}
-use Rattle.fire_tool.specs.Following.{admits}
-use Rattle.step_text.specs.StepText.{Told, step_line, step_lines, tell, prepend}
-use Rattle.step_text.specs.Taken.{Grown, IsTaken, Tells, refusal_of}
-use Rattle.step_text.specs.declared.offers.Refusal.{Refusal}
-use Rattle.step_text.specs.Offers.{judge}
-use Rattle.step_text.proofs.RunFacts.{told_refusal}
+use mathlib.Core.List.{IsSuffix}
 use Rattle.block_record.specs.declared.blocks.Slip.{Slip}
 use Rattle.chain_model.specs.declared.places.Place.{Place}
+use Rattle.chain_model.specs.declared.places.Mode.{Mode}
 use Rattle.chain_model.specs.declared.places.Mode.TheVariants as mode
 use Rattle.chain_model.specs.Ancestry.{IsHistory}
 use Rattle.chain_model.specs.Finality.{ClaimsAgree}
 use Rattle.chain_model.specs.Places.{PlaceFits, place_to, place_along}
+use Rattle.chain_model.specs.Steps.{BlockStep, block_step, plain_of, steps_of}
 use Rattle.chain_laws.proofs.Ends.{place_reached}
 use Rattle.chain_laws.proofs.Later.{fits_later}
+use Rattle.block_tree.specs.Places.{slip_at}
+use Rattle.fork_db.specs.declared.batches.Batch.{Batch}
+use Rattle.fork_db.specs.declared.chunks.StepAt.{StepAt}
+use Rattle.fork_db.specs.Batches.{IsGiven, WasGiven, step_seen}
+use Rattle.relay_model.specs.Worlds.{World}
+use Rattle.relay_model.specs.Offers.{Answer, Closed, Duplicate, Conflict, Early, Stale, WaitFull, Waiting, HistoryFull, Admitted, Offer, offered}
+use Rattle.relay_model.specs.Soundness.{IsBlock, IsSound}
+use Rattle.relay_model.proofs.Sound.{offer_keeps, offer_grows}
+use Rattle.block_relay.specs.declared.answers.Offered.{Offered}
+use Rattle.block_relay.specs.declared.answers.Offered.TheVariants as answer
+use Rattle.block_relay.specs.declared.answers.OfferFault.{OfferFault}
+use Rattle.block_relay.specs.declared.answers.OfferFault.TheVariants as fault
+use Rattle.block_relay.specs.Answers.{IsAnswer, is_mem}
+use Rattle.block_relay.specs.Chronicle.{Told as ToldOf, world_told}
+use Rattle.step_text.specs.declared.refusals.Refusal.{Refusal}
+use Rattle.step_text.specs.StepText.{Told, place_by, prepend, refusal_of, step_line, step_lines, steps_by, tell}
+use Rattle.step_text.specs.Taken.{IsTaken, Tells}
+use Rattle.step_text.proofs.RunFacts.{told_refusal}
+use Rattle.fire_tool.specs.Following.{IsFollowed, admits}
 
--- a place that fits goes on to fit
-pub fits_next : (s : Slip) (older all : List Slip) (place : Place) → all ≡ s ∷ older → IsHistory all → ClaimsAgree all → PlaceFits older place.end place.lib → PlaceFits all place.end place.lib
-fits_next s older all place e h agree fits =
-    subst (λ l. IsHistory l → ClaimsAgree l → PlaceFits l place.end place.lib) (sym e) (λ h2 a2. fits_later (s ∷ []) older h2 a2 place.end place.lib fits) h agree
+-- a place goes on to fit as the history grows
+fits_grown : (newest older : List Slip) (place : Place) → IsSuffix older newest → IsHistory newest → ClaimsAgree newest → PlaceFits older place.end place.lib → PlaceFits newest place.end place.lib
+fits_grown newest older place (more, is) history agreed fits =
+    subst (λ l. IsHistory l → ClaimsAgree l → PlaceFits l place.end place.lib) is (λ h a. fits_later more older h a place.end place.lib fits) history agreed
+
+-- so they do after each offer
+pub followed_on : (said : Result Offered OfferFault) (old new : ToldOf) (s : Slip) (place : Place) → IsFollowed old place → IsBlock s
+    → (is_mem said ≡ false → world_told new ≡ (offered (world_told old) s).world) → (is_mem said ≡ true → new ≡ old) → new.payloads ≡ old.payloads → IsFollowed new place
+followed_on said old new s place f block world mem payloads = by (is_mem said) refl
+  where
+    by : (b : Bool) → is_mem said ≡ b → IsFollowed new place
+    by true e = subst (λ (t : ToldOf). IsFollowed t place) (sym (mem e)) f
+    by false e =
+        let w = world_told old in
+        let sound : IsSound (offered w s).world = offer_keeps w s f.sound block in
+        let fits : PlaceFits (offered w s).world.history place.end place.lib = fits_grown (offered w s).world.history w.history place (offer_grows w s) sound.history sound.agreed f.fits in
+        record {
+          sound = subst IsSound (sym (world e)) sound;
+          fits = subst (λ (v : World). PlaceFits v.history place.end place.lib) (sym (world e)) fits;
+          payloads = payloads ∙ f.payloads;
+        }
 
 -- the place that is reached fits
 pub fits_reached : (newest : List Slip) (place to : Place) → IsHistory newest → PlaceFits newest place.end place.lib → to ≡ place_to newest place mode.Live None → PlaceFits newest to.end to.lib
 fits_reached newest place to h fits e = subst (λ (p : Place). PlaceFits newest p.end p.lib) (sym e) (place_reached newest place mode.Live None h fits tt).fits
+
+-- so a client follows on after its steps to the head
+pub followed_told : (relay : ToldOf) (newest : List Slip) (from at to : Place) → IsFollowed relay from → newest ≡ (world_told relay).history → at ≡ from → to ≡ place_to newest at mode.Live None → IsFollowed relay to
+followed_told relay newest from at to f same begun reached = record {
+  sound = f.sound;
+  fits = fits_reached (world_told relay).history from to f.sound.history f.fits
+      (reached ∙ ap (λ l. place_to l at mode.Live None) same ∙ ap (λ (p : Place). place_to (world_told relay).history p mode.Live None) begun);
+  payloads = f.payloads;
+}
+
+-- the place that is reached, and the text that is told, by other names
+pub reached_from : (newest same : List Slip) (from at to : Place) → newest ≡ same → at ≡ from → to ≡ place_to newest at mode.Live None → to ≡ place_to same from mode.Live None
+reached_from newest same from at to is begun reached =
+    reached ∙ ap (λ l. place_to l at mode.Live None) is ∙ ap (λ (p : Place). place_to same p mode.Live None) begun
+
+pub text_from : (newest same : List Slip) (from at : Place) (before after : List ℕ) → newest ≡ same → at ≡ from → after ≡ before ++ step_lines (map plain_of (steps_of newest at mode.Live None))
+    → after ≡ before ++ step_lines (map plain_of (steps_of same from mode.Live None))
+text_from newest same from at before after is begun told =
+    told ∙ ap (λ l. before ++ step_lines (map plain_of (steps_of l at mode.Live None))) is ∙ ap (λ (p : Place). before ++ step_lines (map plain_of (steps_of same p mode.Live None))) begun
 
 -- a batch of the history was given by it
 pub was_given : (newest : List Slip) (m : Mode) (stop : Option ℕ) (b : Batch) → IsGiven newest newest m stop b → WasGiven newest b
@@ -93,24 +137,64 @@ lines_more steps start before after i e f =
 pub lines_whole : (steps : List BlockStep) (start text : List ℕ) (n : ℕ) → n ≡ length steps → text ≡ start ++ step_lines (map plain_of (take n steps)) → text ≡ start ++ step_lines (map plain_of steps)
 lines_whole steps start text n e f = f ∙ ap (λ l. start ++ step_lines (map plain_of l)) (whole steps n e)
 
--- an admitted block was told
-pub taken_grown : (v : Answer) (s : Slip) (old mid new : List Slip) (from at to : Place) (before after : List ℕ) → v ≡ Admitted → mid ≡ s ∷ old → at ≡ from → new ≡ mid
-    → to ≡ place_to mid at mode.Live None → after ≡ before ++ step_lines (map plain_of (steps_of mid at mode.Live None)) → IsTaken v s old new from to before after
-taken_grown v s old mid new from at to before after is em ea en et ex =
-    let g : Grown s old new from to before after = record {
-      history = en ∙ em;
-      place = et ∙ ap (λ l. place_to l at mode.Live None) em ∙ ap (λ p. place_to (s ∷ old) p mode.Live None) ea;
-      text = ex ∙ ap (λ l. before ++ step_lines (map plain_of (steps_of l at mode.Live None))) em ∙ ap (λ p. before ++ step_lines (map plain_of (steps_of (s ∷ old) p mode.Live None))) ea;
-    } in
-    subst (λ (w : Answer). IsTaken w s old new from to before after) (sym is) g
+-- where a client stands after an answer that admits a block, and what it was told
+pub place_admitted : (a : Result Offered OfferFault) (said : Answer) (newest : List Slip) (from to : Place) → admits a ≡ true → IsAnswer said a → to ≡ place_to newest from mode.Live None → to ≡ place_by said newest from
+place_admitted (Ok (answer.Admitted at count dropped)) said newest from to e is h = h ∙ sym (ap (λ x. place_by x newest from) is)
+place_admitted (Ok answer.Duplicate) said newest from to e is h = absurd (grind arith)
+place_admitted (Ok answer.Waiting) said newest from to e is h = absurd (grind arith)
+place_admitted (Ok answer.Early) said newest from to e is h = absurd (grind arith)
+place_admitted (Ok answer.Stale) said newest from to e is h = absurd (grind arith)
+place_admitted (Err x) said newest from to e is h = absurd (grind arith)
 
--- another block changed nothing
-pub taken_same : (v : Answer) (s : Slip) (old : List Slip) (from : Place) (text : List ℕ) → (v ≡ Admitted → ⊥) → IsTaken v s old old from from text text
-taken_same Admitted s old from text not = absurd (not refl)
-taken_same Duplicate s old from text not = record { history = refl; place = refl; text = refl }
-taken_same Unlinked s old from text not = record { history = refl; place = refl; text = refl }
-taken_same (Contradicts c) s old from text not = record { history = refl; place = refl; text = refl }
-taken_same (HistoryFull len) s old from text not = record { history = refl; place = refl; text = refl }
+pub text_admitted : (a : Result Offered OfferFault) (said : Answer) (newest : List Slip) (from : Place) (before after : List ℕ) → admits a ≡ true → IsAnswer said a
+    → after ≡ before ++ step_lines (map plain_of (steps_of newest from mode.Live None)) → after ≡ before ++ step_lines (map plain_of (steps_by said newest from))
+text_admitted (Ok (answer.Admitted at count dropped)) said newest from before after e is h = h ∙ sym (ap (λ x. before ++ step_lines (map plain_of (steps_by x newest from))) is)
+text_admitted (Ok answer.Duplicate) said newest from before after e is h = absurd (grind arith)
+text_admitted (Ok answer.Waiting) said newest from before after e is h = absurd (grind arith)
+text_admitted (Ok answer.Early) said newest from before after e is h = absurd (grind arith)
+text_admitted (Ok answer.Stale) said newest from before after e is h = absurd (grind arith)
+text_admitted (Err x) said newest from before after e is h = absurd (grind arith)
+
+-- an answer that admits no block tells nothing
+TellsNothing : Answer → Type 0
+TellsNothing said = ((newest : List Slip) (place : Place) → place_by said newest place ≡ place) × ((newest : List Slip) (place : Place) → steps_by said newest place ≡ [])
+
+nothing_told : (a : Result Offered OfferFault) (said : Answer) → admits a ≡ false → is_mem a ≡ false → IsAnswer said a → TellsNothing said
+unfolding TellsNothing
+nothing_told (Ok (answer.Admitted at count dropped)) said e m is = absurd (grind arith)
+nothing_told (Ok answer.Duplicate) said e m is = subst TellsNothing (sym is) (λ newest place. refl, λ newest place. refl)
+nothing_told (Ok answer.Waiting) said e m is = subst TellsNothing (sym is) (λ newest place. refl, λ newest place. refl)
+nothing_told (Ok answer.Early) said e m is = subst TellsNothing (sym is) (λ newest place. refl, λ newest place. refl)
+nothing_told (Ok answer.Stale) said e m is = subst TellsNothing (sym is) (λ newest place. refl, λ newest place. refl)
+nothing_told (Err (fault.Closed len)) said e m is = subst TellsNothing (sym is) (λ newest place. refl, λ newest place. refl)
+nothing_told (Err (fault.Conflict c)) said e m is = subst TellsNothing (sym is) (λ newest place. refl, λ newest place. refl)
+nothing_told (Err (fault.HistoryFull len need)) said e m is = subst TellsNothing (sym is) (λ newest place. refl, λ newest place. refl)
+nothing_told (Err (fault.WaitFull blocks bytes)) said e m is = subst TellsNothing (sym is) (λ newest place. refl, λ newest place. refl)
+nothing_told (Err fault.Mem) said e m is = absurd (grind arith)
+
+pub place_kept : (a : Result Offered OfferFault) (said : Answer) (newest : List Slip) (place : Place) → admits a ≡ false → is_mem a ≡ false → IsAnswer said a → place ≡ place_by said newest place
+unfolding TellsNothing
+place_kept a said newest place e m is = sym ((nothing_told a said e m is).0 newest place)
+
+pub text_kept : (a : Result Offered OfferFault) (said : Answer) (newest : List Slip) (place : Place) (text : List ℕ) → admits a ≡ false → is_mem a ≡ false → IsAnswer said a
+    → text ≡ text ++ step_lines (map plain_of (steps_by said newest place))
+unfolding TellsNothing
+text_kept a said newest place text e m is = sym (ap (λ l. text ++ step_lines (map plain_of l)) ((nothing_told a said e m is).1 newest place) ∙ append-nil text)
+
+-- a block that was offered, and whose answer was told
+pub taken_answer : (a : Result Offered OfferFault) (s : Slip) (old mid new : World) (from at to : Place) (before after : List ℕ) (r : Option Refusal) → is_mem a ≡ false
+    → (is_mem a ≡ false → mid ≡ (offered old s).world) → at ≡ from → new ≡ mid
+    → to ≡ place_by (offered old s).answer mid.history at → after ≡ before ++ step_lines (map plain_of (steps_by (offered old s).answer mid.history at))
+    → r ≡ refusal_of (offered old s).answer → IsTaken s old new from to before after r
+taken_answer a s old mid new from at to before after r m world place same reached text refused =
+    let said = (offered old s).answer in
+    record {
+      world = same ∙ world m;
+      place = reached ∙ ap (λ (w : World). place_by said w.history at) (world m) ∙ ap (place_by said (offered old s).world.history) place;
+      text = text ∙ ap (λ (w : World). before ++ step_lines (map plain_of (steps_by said w.history at))) (world m)
+          ∙ ap (λ (p : Place). before ++ step_lines (map plain_of (steps_by said (offered old s).world.history p))) place;
+      refusal = refused;
+    }
 
 pub told_place : (newest : List Slip) (from : Place) (b : Batch) (n : ℕ) (to : Place) → b.place ≡ from → n ≡ length (steps_of newest b.place mode.Live None)
     → to ≡ place_along b.place (take n (steps_of newest b.place mode.Live None)) → to ≡ place_to newest from mode.Live None
@@ -123,32 +207,15 @@ told_text newest from b before after e ea = ea ∙ ap (λ p. before ++ step_line
 pub at_end : (i n len : ℕ) → i ≤ n → n ≤ i → n ≡ len → i ≡ len
 at_end i n len le ge e = (let f : i ≡ n = omega arith in f) ∙ e
 
-pub on_ok : {T E : Type 0} (r : Result T E) {P : Type 0} → P → OnOk r P
-on_ok (Ok x) h = h
-on_ok (Err e) h = tt
-
-pub admits-true : (v : Answer) (b : Bool) → b ≡ admits v → b ≡ true → v ≡ Admitted
-admits-true Admitted b e t = refl
-admits-true Duplicate b e t = absurd (grind arith)
-admits-true Unlinked b e t = absurd (grind arith)
-admits-true (Contradicts c) b e t = absurd (grind arith)
-admits-true (HistoryFull len) b e t = absurd (grind arith)
-
-pub admits-false : (v w : Answer) (b : Bool) → b ≡ admits v → b ≡ false → v ≡ w → w ≡ Admitted → ⊥
-admits-false v w b e t ev ew = two b (e ∙ ap admits (ev ∙ ew)) t
-  where
-    two : (b : Bool) → b ≡ true → b ≡ false → ⊥
-    two b e f = grind arith
-
 pub none_of : (o : Option Refusal) (b : Bool) → b ≡ is_some o → b ≡ false → o ≡ None
 none_of None b e f = refl
 none_of (Some r) b e f = absurd (grind arith)
 
 -- a refusal ends what is told
-pub tells_refused : (o : Option Refusal) (b : Bool) (s : Slip) (slips more : List Slip) (old new : List Slip) (from to : Place) (before after : List ℕ) (all : Told) → b ≡ is_some o → b ≡ true
-    → o ≡ refusal_of (judge old s) s → IsTaken (judge old s) s old new from to before after → prepend before (tell (s ∷ slips) old from) ≡ all → Tells all more o after new to
-tells_refused None b s slips more old new from to before after all eb t eo taken h = absurd (grind arith)
-tells_refused (Some r) b s slips more old new from to before after all eb t eo taken h = told_refusal s slips old new from to before after all r (sym eo) taken h
+pub tells_refused : (o : Option Refusal) (b : Bool) (s : Slip) (slips more : List Slip) (old new : World) (from to : Place) (before after : List ℕ) (all : Told) → b ≡ is_some o → b ≡ true
+    → IsTaken s old new from to before after o → prepend before (tell (s ∷ slips) old from) ≡ all → Tells all more o after new to
+tells_refused None b s slips more old new from to before after all eb t taken h = absurd (grind arith)
+tells_refused (Some r) b s slips more old new from to before after all eb t taken h = told_refusal s slips old new from to before after all r taken h
 
 pub nothing_left : {X : Type 0} (xs : List X) (n : ℕ) → n ≡ length xs → n ≡ 0 → xs ≡ []
 nothing_left [] n e z = refl

@@ -14,7 +14,7 @@ use Rattle.fire_tool.specs.declared.cursor.CursorStop.{CursorStop}
 use Rattle.fire_tool.specs.declared.cursor.CursorStop.TheVariants.{Mem, Write}
 use Rattle.fire_tool.specs.ErrorLines.{named}
 use Rattle.step_text.specs.StepText.{word_of}
-use Rattle.fire_tool.specs.Runs.{Streams, TookInput, WroteNothing, ToldError, Runs}
+use Rattle.fire_tool.specs.Runs.{Streams, TookInput, WroteNothing, ToldError, Runs, steps_first}
 
 -- the value of an option, unless it is empty or begins with a dash
 abbrev pub plain_value : List ℕ → Option (List ℕ)
@@ -113,7 +113,7 @@ pub record CursorRun (text : List ℕ) (before after : Streams) (status : ℕ) :
 
 -- a run of `cursor` with this value, where the words name that, and else of another command
 abbrev pub RunsCommand : Option (List ℕ) → List (List ℕ) → Streams → Streams → ℕ → Type 0
-RunsCommand None words before after status = Runs words before after status
+RunsCommand None words before after status = Runs (steps_first words) before after status
 RunsCommand (Some text) words before after status = CursorRun text before after status
 
 -- a run with these words, by the command that they name

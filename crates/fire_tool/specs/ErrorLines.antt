@@ -1,10 +1,10 @@
 -- The status of what ended a text, and the line that names it.
 use Rattle.std.specs.Prelude.{ℕ, ◌≡◌, ◌⊎◌, List, [], ◌∷◌, ◌++◌, codes}
 use Rattle.std.specs.Fmt.{decimal}
-use Rattle.step_text.specs.declared.offers.ConflictKind.{ConflictKind}
-use Rattle.step_text.specs.declared.offers.ConflictKind.TheVariants as kind
-use Rattle.step_text.specs.declared.offers.Refusal.{Refusal}
-use Rattle.step_text.specs.declared.offers.Refusal.TheVariants as refused
+use Rattle.relay_model.specs.declared.answers.ConflictKind.{ConflictKind}
+use Rattle.relay_model.specs.declared.answers.ConflictKind.TheVariants as kind
+use Rattle.step_text.specs.declared.refusals.Refusal.{Refusal}
+use Rattle.step_text.specs.declared.refusals.Refusal.TheVariants as refused
 use Rattle.fire_lines.specs.declared.faults.LineFault.{LineFault}
 use Rattle.fire_lines.specs.declared.faults.LineFault.TheVariants as fault
 use Rattle.step_text.specs.StepText.{Ending, whole, bad_line, refusal}
@@ -21,9 +21,9 @@ kind_word kind.Finality = codes "finality"
 
 -- the line of a refusal
 abbrev pub refusal_line : Refusal → List ℕ
-refusal_line (refused.Unlinked block) = codes "fire: unlinked " ++ named block.num block.id ++ 10 ∷ []
 refusal_line (refused.HistoryFull len need) = codes "fire: history full " ++ decimal len ++ 32 ∷ decimal need ++ 10 ∷ []
 refusal_line (refused.Contradicts c) = codes "fire: conflict " ++ kind_word c.kind ++ codes " held " ++ named c.held.num c.held.id ++ codes " offered " ++ named c.offered.num c.offered.id ++ 10 ∷ []
+refusal_line (refused.WaitFull blocks bytes) = codes "fire: wait full " ++ decimal blocks ++ 32 ∷ decimal bytes ++ 10 ∷ []
 
 -- what is wrong with a line; that there was no memory is no fault of the line
 abbrev pub fault_words : LineFault → List ℕ
@@ -58,8 +58,8 @@ fault_line f = codes "fire: line " ++ decimal (fault_place f) ++ codes ": " ++ f
 
 -- the status of a refusal
 abbrev pub refusal_status : Refusal → ℕ
-refusal_status (refused.Unlinked block) = 12
 refusal_status (refused.HistoryFull len need) = 12
+refusal_status (refused.WaitFull blocks bytes) = 12
 refusal_status (refused.Contradicts c) = 6
 
 -- the line of what ended a text, and none at its end

@@ -1,19 +1,32 @@
 -- What a follower of the head has.
-use Rattle.std.specs.Prelude.{Bool, true, false, List}
-use Rattle.block_record.specs.declared.blocks.Slip.{Slip}
+use Rattle.std.specs.Prelude.{◌≡◌, Bool, true, false, Result, Ok, Err}
 use Rattle.chain_model.specs.declared.places.Place.{Place}
-use Rattle.step_text.specs.declared.offers.Verdict.{Verdict}
-use Rattle.step_text.specs.declared.offers.Verdict.TheVariants.{Admitted, Duplicate, Unlinked, Contradicts, HistoryFull}
+use Rattle.chain_model.specs.Places.{PlaceFits}
+use Rattle.relay_model.specs.Worlds.{World}
+use Rattle.relay_model.specs.Soundness.{IsSound}
+use Rattle.block_relay.specs.declared.answers.Offered.{Offered}
+use Rattle.block_relay.specs.declared.answers.Offered.TheVariants as answer
+use Rattle.block_relay.specs.declared.answers.OfferFault.{OfferFault}
+use Rattle.block_relay.specs.declared.payloads.Payloads.{Payloads}
+use Rattle.block_relay.specs.declared.payloads.Payloads.TheVariants.{LetGo}
+use Rattle.block_relay.specs.Chronicle.{Told, world_told}
 
--- a history with its newest block first, and the place of a client that was told all steps to its heads
+-- the world of a relay, and the place of a client that was told all steps to its heads
 pub record Following : Type 0 where
-  pub history : List Slip
+  pub world : World
   pub place : Place
 
--- whether an answer admits the block
-abbrev pub admits : Verdict → Bool
-admits Admitted = true
-admits Duplicate = false
-admits Unlinked = false
-admits (Contradicts c) = false
-admits (HistoryFull len) = false
+-- a relay that lets payloads go, and a client whose place fits its history
+pub record IsFollowed (relay : Told) (place : Place) : Type 0 where
+  pub sound : IsSound (world_told relay)
+  pub fits : PlaceFits (world_told relay).history place.end place.lib
+  pub payloads : relay.payloads ≡ LetGo
+
+-- whether a block is admitted
+abbrev pub admits : Result Offered OfferFault → Bool
+admits (Ok (answer.Admitted from count dropped)) = true
+admits (Ok answer.Duplicate) = false
+admits (Ok answer.Waiting) = false
+admits (Ok answer.Early) = false
+admits (Ok answer.Stale) = false
+admits (Err fault) = false

@@ -1,10 +1,10 @@
 -- What a run has done with a piece of its input.
 use Rattle.std.specs.Prelude.{ℕ, List, Option, None, Some, Result, Ok, Err}
-use Rattle.block_record.specs.declared.blocks.Slip.{Slip}
 use Rattle.chain_model.specs.declared.places.Place.{Place}
 use Rattle.outer_world.specs.Causes.{Rose}
 use Rattle.outer_world.specs.Told.{Grows, GrowsByFront}
 use Rattle.fire_lines.specs.Reader.{ReaderState}
+use Rattle.relay_model.specs.Worlds.{World}
 use Rattle.fire_tool.specs.declared.progress.RunEnd.{RunEnd}
 use Rattle.fire_tool.specs.declared.steps.StepsStop.{StepsStop}
 use Rattle.fire_tool.specs.declared.steps.StepsStop.TheVariants.{Mem, Read, Write, TooLong}
@@ -13,10 +13,10 @@ use Rattle.fire_tool.specs.Telling.{IsUnderWay, IsEnded, ending_seen}
 
 -- the input ends with the piece. The run goes on or was ended by it, with all that it tells written since the start; or there was no memory or a write
 -- failed, with a front of that written
-abbrev pub PieceTaken : List ℕ → Option (List ℕ) → Option (List ℕ) → ℕ → ℕ → ReaderState → List Slip → Place → Result (Option RunEnd) StepsStop → Type 0
-PieceTaken input start written before after reader history place (Ok None) = (told : List ℕ) × IsUnderWay input told reader history place × Grows start written told
-PieceTaken input start written before after reader history place (Ok (Some end)) = (told : List ℕ) × IsEnded input told (ending_seen end) × Grows start written told
-PieceTaken input start written before after reader history place (Err Mem) = GrowsByFront start written (step_text input).text
-PieceTaken input start written before after reader history place (Err Write) = Rose before after × GrowsByFront start written (step_text input).text
-PieceTaken input start written before after reader history place (Err Read) = ⊥
-PieceTaken input start written before after reader history place (Err TooLong) = ⊥
+abbrev pub PieceTaken : ℕ → List ℕ → Option (List ℕ) → Option (List ℕ) → ℕ → ℕ → ReaderState → World → Place → Result (Option RunEnd) StepsStop → Type 0
+PieceTaken first input start written before after reader world place (Ok None) = (told : List ℕ) × IsUnderWay first input told reader world place × Grows start written told
+PieceTaken first input start written before after reader world place (Ok (Some end)) = (told : List ℕ) × IsEnded first input told (ending_seen end) × Grows start written told
+PieceTaken first input start written before after reader world place (Err Mem) = GrowsByFront start written (step_text first input).text
+PieceTaken first input start written before after reader world place (Err Write) = Rose before after × GrowsByFront start written (step_text first input).text
+PieceTaken first input start written before after reader world place (Err Read) = ⊥
+PieceTaken first input start written before after reader world place (Err TooLong) = ⊥

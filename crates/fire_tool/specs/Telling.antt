@@ -6,21 +6,23 @@ use Rattle.chain_model.specs.Places.{no_place}
 use Rattle.fire_lines.specs.declared.faults.LineFault.{LineFault}
 use Rattle.fire_lines.specs.Reader.{ReaderState, state_after, AreFurther}
 use Rattle.fire_lines.specs.Text.{received}
-use Rattle.step_text.specs.declared.offers.Refusal.{Refusal}
+use Rattle.relay_model.specs.Worlds.{World}
+use Rattle.step_text.specs.declared.refusals.Refusal.{Refusal}
 use Rattle.fire_tool.specs.declared.progress.RunEnd.{RunEnd}
 use Rattle.fire_tool.specs.declared.progress.RunEnd.TheVariants.{BadLine, Refused}
-use Rattle.step_text.specs.StepText.{Ending, bad_line, refusal, tell, prepend, line_max, step_text}
+use Rattle.step_text.specs.Limits.{line_max, new_world}
+use Rattle.step_text.specs.StepText.{Ending, bad_line, refusal, tell, prepend, step_text}
 
--- these bytes were taken and nothing in them ended the run, and this text was told: whatever blocks come next are told from this history, which has its newest block first, and this place
-pub record IsUnderWay (input told : List ℕ) (reader : ReaderState) (history : List Slip) (place : Place) : Type 0 where
+-- these bytes were taken and nothing in them ended the run, and this text was told: whatever blocks come next are told from this world and this place
+pub record IsUnderWay (first : ℕ) (input told : List ℕ) (reader : ReaderState) (world : World) (place : Place) : Type 0 where
   pub read : reader ≡ state_after line_max input
   pub sound : (received line_max input).fault ≡ None
-  pub goes_on : (more : List Slip) → tell ((received line_max input).slips ++ more) [] no_place ≡ prepend told (tell more history place)
+  pub goes_on : (more : List Slip) → tell ((received line_max input).slips ++ more) (new_world first) no_place ≡ prepend told (tell more world place)
 
 -- these bytes ended the run so, whatever follows them, and this text was told
-pub record IsEnded (input told : List ℕ) (ending : Ending) : Type 0 where
-  pub text : step_text input ≡ record { text = told; ending = ending }
-  pub stays : (rest : List ℕ) → step_text (input ++ rest) ≡ step_text input
+pub record IsEnded (first : ℕ) (input told : List ℕ) (ending : Ending) : Type 0 where
+  pub text : step_text first input ≡ record { text = told; ending = ending }
+  pub stays : (rest : List ℕ) → step_text first (input ++ rest) ≡ step_text first input
 
 -- what ended a run, by its refusal and the fault of its line
 abbrev pub end_for : Option Refusal → Option LineFault → Option RunEnd

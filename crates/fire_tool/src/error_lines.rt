@@ -1,6 +1,7 @@
 //! The lines that name what ended a run.
 
-ghost use Rattle.std.specs.Prelude.{◌≡◌, ◌++◌, IfOk, OnOk};
+ghost use Rattle.std.specs.Prelude.{◌≡◌, ◌∷◌, ◌++◌, [], IfOk, OnOk};
+ghost use Rattle.std.specs.Fmt.{decimal};
 ghost use Rattle.fire_tool.specs.ErrorLines.{named, kind_word, refusal_line, fault_words, fault_place, fault_field, fault_line, ending_line, ending_status, IsEndStatus};
 ghost use Rattle.fire_tool.specs.Telling.{ending_seen};
 
@@ -8,8 +9,9 @@ use crate::progress::RunEnd;
 use block_record::Id;
 use fire_lines::LineFault;
 use itoa::Buffer;
+use relay_model::{Conflict, ConflictKind};
 use std::alloc::{AllocError, Global};
-use step_text::{Conflict, ConflictKind, Refusal};
+use step_text::Refusal;
 
 /// Appends a number and an id.
 pub fn push_named(num: u64, id: &Id, line: &mut Vec<u8>) -> Result<(), AllocError>
@@ -47,16 +49,34 @@ fn conflict_line(alloc: Global, conflict: &Conflict) -> Result<Vec<u8>, AllocErr
     Ok(line)
 }
 
-/// The line of a full history.
-fn full_line(alloc: Global, len: u64, need: u64) -> Result<Vec<u8>, AllocError>
-    ensures { IfOk result (λ line. line.items ≡ refusal_line (Refusal.HistoryFull len need)) }
+/// Appends two numbers and the end of the line.
+fn push_two(first: u64, second: u64, line: &mut Vec<u8>) -> Result<(), AllocError>
+    ensures { OnOk result
+        (line.new.items ≡ line.old.items ++ decimal first ++ 32 ∷ decimal second ++ 10 ∷ []) }
 {
     let mut digits = Buffer::new();
-    let mut line = Vec::from_slice(alloc, b"fire: history full ")?;
-    line.extend_from_slice(digits.format(len).as_bytes())?;
+    line.extend_from_slice(digits.format(first).as_bytes())?;
     line.push(b' ')?;
-    line.extend_from_slice(digits.format(need).as_bytes())?;
+    line.extend_from_slice(digits.format(second).as_bytes())?;
     line.push(b'\n')?;
+    Ok(())
+}
+
+/// The line of a full history.
+fn history_full_line(alloc: Global, len: u64, need: u64) -> Result<Vec<u8>, AllocError>
+    ensures { IfOk result (λ line. line.items ≡ refusal_line (Refusal.HistoryFull len need)) }
+{
+    let mut line = Vec::from_slice(alloc, b"fire: history full ")?;
+    push_two(len, need, &mut line)?;
+    Ok(line)
+}
+
+/// The line of a block for which there was no room to wait.
+fn wait_full_line(alloc: Global, blocks: u64, bytes: u64) -> Result<Vec<u8>, AllocError>
+    ensures { IfOk result (λ line. line.items ≡ refusal_line (Refusal.WaitFull blocks bytes)) }
+{
+    let mut line = Vec::from_slice(alloc, b"fire: wait full ")?;
+    push_two(blocks, bytes, &mut line)?;
     Ok(line)
 }
 
@@ -65,14 +85,9 @@ fn line_of_refusal(alloc: Global, refusal: &Refusal) -> Result<Vec<u8>, AllocErr
     ensures { IfOk result (λ line. line.items ≡ refusal_line refusal.now) }
 {
     match refusal {
-        Refusal::Unlinked(block) => {
-            let mut line = Vec::from_slice(alloc, b"fire: unlinked ")?;
-            push_named(block.num, &block.id, &mut line)?;
-            line.push(b'\n')?;
-            Ok(line)
-        }
         Refusal::Contradicts(conflict) => conflict_line(alloc, conflict),
-        Refusal::HistoryFull { len, need } => full_line(alloc, *len, *need),
+        Refusal::HistoryFull { len, need } => history_full_line(alloc, *len, *need),
+        Refusal::WaitFull { blocks, bytes } => wait_full_line(alloc, *blocks, *bytes),
     }
 }
 
@@ -152,7 +167,7 @@ pub fn status_of_end(end: &RunEnd) -> u8
 {
     match end {
         RunEnd::BadLine(_) => 5,
-        RunEnd::Refused(Refusal::Unlinked(_) | Refusal::HistoryFull { .. }) => 12,
+        RunEnd::Refused(Refusal::HistoryFull { .. } | Refusal::WaitFull { .. }) => 12,
         RunEnd::Refused(Refusal::Contradicts(_)) => 6,
     }
 }

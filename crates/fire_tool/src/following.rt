@@ -1,22 +1,22 @@
-//! A history and a client that follows its head: each block that is offered is answered, and told.
+//! A relay and a client that follows its head: each block that is offered is answered, and told.
 
-ghost use Rattle.std.specs.Prelude.{◌≡◌, ◌<◌, ◌++◌, ◌∷◌, [], ℕ, List, Option, None, IfOk, OnOk, map, take, drop, length};
-ghost use Rattle.block_record.specs.Slips.{slip, same_slip};
-ghost use Rattle.block_record.specs.declared.blocks.Slip.{Slip};
-ghost use Rattle.chain_model.specs.Ancestry.{IsHistory};
+ghost use Rattle.std.specs.Prelude.{◌≡◌, ◌<◌, ◌++◌, ◌∷◌, [], ℕ, List, Option, None, Err, IfOk, OnOk, map, take, drop, length, false};
+ghost use Rattle.block_record.specs.Slips.{slip};
+ghost use Rattle.block_record.specs.declared.blocks.Slip.{Slip as SlipOf};
 ghost use Rattle.chain_model.specs.declared.places.Mode.{Mode as ModeOf};
 ghost use Rattle.chain_model.specs.declared.places.Mode.TheVariants as mode;
 ghost use Rattle.chain_model.specs.Places.{PlaceFits, no_place, place_to};
 ghost use Rattle.chain_model.specs.Steps.{steps_of, plain_of};
+ghost use Rattle.block_relay.specs.Answers.{IsAnswer, is_mem};
 ghost use Rattle.fire_tool.specs.Following.{admits};
-ghost use Rattle.step_text.specs.Offers.{judge, judge_room};
-ghost use Rattle.step_text.specs.StepText.{step_lines, prepend, tell};
-ghost use Rattle.step_text.specs.Taken.{IsTaken, Tells, refusal_of};
+ghost use Rattle.relay_model.specs.Offers.{Answer, offered};
+ghost use Rattle.step_text.specs.Limits.{new_world};
+ghost use Rattle.step_text.specs.StepText.{first_clash as first_clash_of, place_by, prepend, refusal_of, step_lines, steps_by, tell};
+ghost use Rattle.step_text.specs.Taken.{IsTaken, Tells};
 ghost use Rattle.fork_db.specs.Batches.{IsGiven, WasGiven};
-ghost use Rattle.fork_db.specs.declared.db.Verdict.TheVariants as verdict;
-ghost use Rattle.fork_db.specs.Verdicts.{verdict_of, fits};
 
-use block_record::{Block, BlockRef, Slip, into_slip, slip_of};
+use block_record::{Block, into_slip};
+use block_relay::{Conflict, Limits, OfferFault, Offered, Payloads, Relay};
 use chain_model::{Mode, Place};
 use fork_db::{Batch, ForkDb};
 use link_rows::Steps;
@@ -24,36 +24,47 @@ use std::alloc::{AllocError, Global};
 use std::marker::{Brand, Model};
 use std::mem;
 use std::sync::ledger::{Blank, Ledger};
-use step_text::{ConflictKind, HISTORY_BLOCKS_MAX, Refusal, Verdict, contradiction, push_line};
+use step_text::{Refusal, push_line};
 
-/// A history with forks, and where a client stands that was told all steps to its heads.
+/// The limits of a run.
+pub const LIMITS: Limits = Limits {
+    line: 67_108_864,
+    request: 65_536,
+    wait_blocks: 1_024,
+    wait_bytes: 536_870_912,
+    history: 4_194_304,
+    chunk: 256,
+    deaths: 5,
+    hold: 1_000_000,
+};
+
+/// A relay, and where a client stands that was told all steps to its heads.
 #[derive(Drop)]
 pub struct Follower {
-    db: ForkDb,
+    relay: Relay,
     place: Place,
 }
 
 impl Model for Follower {
-    ghost use Rattle.chain_model.specs.Ancestry.{IsHistory};
-    ghost use Rattle.chain_model.specs.Places.{PlaceFits};
-    ghost use Rattle.fire_tool.specs.Following.{Following};
+    ghost use Rattle.block_relay.specs.Chronicle.{world_told};
+    ghost use Rattle.fire_tool.specs.Following.{Following, IsFollowed};
 
     ghost Value = { Following };
 
-    ghost view = { λ f. record { history = f.db.history; place = f.place } };
+    ghost view = { λ f. record { world = world_told f.relay; place = f.place } };
 
-    ghost invariant = { λ f. IsHistory f.db.history
-        × PlaceFits f.db.history f.place.end f.place.lib };
+    ghost invariant = { λ f. IsFollowed f.relay f.place };
 }
 
 impl Follower {
-    /// No block, and a client that has received nothing.
-    pub fn new(alloc: Global) -> Result<Follower, AllocError>
-        ensures history { IfOk result (λ f. f.history ≡ []) }
+    /// No block, for blocks with numbers of at least `first`, and a client that has received nothing.
+    pub fn new(alloc: Global, first: u64) -> Result<Follower, AllocError>
+        ensures world { IfOk result (λ f. f.world ≡ new_world first) }
         ensures place { IfOk result (λ f. f.place ≡ no_place) }
     {
+        let relay = Relay::new(alloc, first, 0, LIMITS, Payloads::LetGo)?;
         Ok(Follower {
-            db: ForkDb::new(alloc, HISTORY_BLOCKS_MAX)?,
+            relay,
             place: nowhere(),
         })
     }
@@ -62,17 +73,16 @@ impl Follower {
     /// the first refusal.
     pub fn tell(
         &mut self,
-        alloc: Global,
         blocks: Vec<Block>,
         text: &mut Vec<u8>,
     ) -> Result<Option<Refusal>, AllocError>
-        ensures { (more : List Slip) → IfOk result (λ refusal. Tells
+        ensures { (more : List SlipOf) → IfOk result (λ refusal. Tells
             (prepend text.old.items
-            (tell (map slip blocks.items ++ more) self.old.history self.old.place))
-            more refusal text.new.items self.new.history self.new.place) }
+            (tell (map slip blocks.items ++ more) self.old.world self.old.place))
+            more refusal text.new.items self.new.world self.new.place) }
     {
         for block in blocks {
-            let refusal = self.offer(alloc, block, text)?;
+            let refusal = self.offer(block, text)?;
             if refusal.is_some() {
                 return Ok(refusal);
             }
@@ -80,38 +90,46 @@ impl Follower {
         Ok(None)
     }
 
-    /// Offers a block, tells the steps that it brings about, and gives the refusal, if it is refused.
-    fn offer(
-        &mut self,
-        alloc: Global,
-        block: Block,
-        text: &mut Vec<u8>,
-    ) -> Result<Option<Refusal>, AllocError>
-        ensures answer { IfOk result
-            (λ r. r ≡ refusal_of (judge self.old.history (slip block)) (slip block)) }
-        ensures taken { OnOk result (IsTaken (judge self.old.history (slip block)) (slip block)
-            self.old.history self.new.history
-            self.old.place self.new.place text.old.items text.new.items) }
+    /// Offers a block, tells the steps that it brings about, and gives the refusal, if it is refused
+    /// or drops a block that waited.
+    fn offer(&mut self, block: Block, text: &mut Vec<u8>) -> Result<Option<Refusal>, AllocError>
+        ensures { IfOk result (λ refusal. IsTaken (slip block) self.old.world self.new.world
+            self.old.place self.new.place text.old.items text.new.items refusal) }
     {
-        let verdict = answer(alloc, &self.db, &block)?;
-        if !is_admitted(&verdict) {
-            return refusal_by(verdict, &block);
-        }
-        self.append(block)?;
-        self.tell_by::<Brand>(text, Blank::new(1))?;
-        Ok(None)
+        let answer = self.offer_slip(block);
+        self.tell_answer(&answer, text)?;
+        let refusal = refusal_by(answer)?;
+        Ok(refusal)
     }
 
-    /// Appends a block that may come next. Its payload is let go, since no rule needs it any more.
-    fn append(&mut self, block: Block) -> Result<(), AllocError>
-        requires fits { verdict_of self.old.history (slip block) ≡ fits }
-        ensures history { OnOk result (self.new.history ≡ slip block ∷ self.old.history) }
-        ensures place { OnOk result (self.new.place ≡ self.old.place) }
+    /// Offers a block to the relay. Its payload is let go, since no rule needs it any more.
+    fn offer_slip(&mut self, block: Block) -> Result<Offered, OfferFault>
+        ensures said { IsAnswer (offered self.old.world (slip block)).answer result }
+        ensures world { is_mem result ≡ false
+            → self.new.world ≡ (offered self.old.world (slip block)).world }
+        ensures place { self.new.place ≡ self.old.place }
     {
-        match self.db.append_slip(into_slip(block)) {
-            Ok(_) => Ok(()),
-            Err(_) => Err(AllocError),
+        self.relay.offer_slip(into_slip(block))
+    }
+
+    /// Tells the steps to the head, where the answer admits a block.
+    fn tell_answer(
+        &mut self,
+        answer: &Result<Offered, OfferFault>,
+        text: &mut Vec<u8>,
+    ) -> Result<(), AllocError>
+        ensures world { self.new.world ≡ self.old.world }
+        ensures place { (said : Answer) → is_mem answer.now ≡ false → IsAnswer said answer.now
+            → OnOk result (self.new.place ≡ place_by said self.old.world.history self.old.place) }
+        ensures text { (said : Answer) → is_mem answer.now ≡ false → IsAnswer said answer.now
+            → OnOk result (text.new.items ≡ text.old.items
+            ++ step_lines (map plain_of (steps_by said self.old.world.history self.old.place))) }
+    {
+        if !is_admitted(answer) {
+            return Ok(());
         }
+        self.tell_by::<Brand>(text, Blank::new(1))?;
+        Ok(())
     }
 
     /// Tells the steps from where the client stands to the head.
@@ -119,14 +137,14 @@ impl Follower {
         requires name { blank.name ≡ L.name }
         requires parts { blank.parts ≡ L.parts }
         requires more { 0 < L.parts }
-        ensures history { self.new.history ≡ self.old.history }
+        ensures world { self.new.world ≡ self.old.world }
         ensures place { OnOk result (self.new.place
-            ≡ place_to self.old.history self.old.place mode.Live None) }
-        ensures text { OnOk result (text.new.items ≡ text.old.items
-            ++ step_lines (map plain_of (steps_of self.old.history self.old.place mode.Live None))) }
+            ≡ place_to self.old.world.history self.old.place mode.Live None) }
+        ensures text { OnOk result (text.new.items ≡ text.old.items ++ step_lines (map plain_of
+            (steps_of self.old.world.history self.old.place mode.Live None))) }
     {
         let place = mem::replace(&mut self.place, nowhere());
-        self.place = tell_from::<L>(&self.db, place, text, blank)?;
+        self.place = tell_from::<L>(self.relay.history(), place, text, blank)?;
         Ok(())
     }
 }
@@ -166,7 +184,7 @@ fn tell_from<L: Ledger>(
 /// Appends the lines of the steps of a batch.
 fn push_steps(db: &ForkDb, batch: &Batch, text: &mut Vec<u8>) -> Result<(), AllocError>
     requires { WasGiven db.now.history batch.now }
-    ensures { (older : List Slip) (m : ModeOf) (stop : Option ℕ)
+    ensures { (older : List SlipOf) (m : ModeOf) (stop : Option ℕ)
         → IsGiven db.now.history older m stop batch.now
         → OnOk result (text.new.items ≡ text.old.items
         ++ step_lines (map plain_of (steps_of older batch.now.place m stop))) }
@@ -180,7 +198,7 @@ fn push_steps(db: &ForkDb, batch: &Batch, text: &mut Vec<u8>) -> Result<(), Allo
 /// Appends the line of the step at an index of a batch, where there is one.
 fn push_step(db: &ForkDb, batch: &Batch, index: u64, text: &mut Vec<u8>) -> Result<(), AllocError>
     requires { WasGiven db.now.history batch.now }
-    ensures { (older : List Slip) (m : ModeOf) (stop : Option ℕ)
+    ensures { (older : List SlipOf) (m : ModeOf) (stop : Option ℕ)
         → IsGiven db.now.history older m stop batch.now
         → OnOk result (text.new.items ≡ text.old.items ++ step_lines
         (map plain_of (take 1 (drop index (steps_of older batch.now.place m stop))))) }
@@ -194,104 +212,43 @@ fn push_step(db: &ForkDb, batch: &Batch, index: u64, text: &mut Vec<u8>) -> Resu
     }
 }
 
-/// The refusal that an answer to a block is, if it is one.
-fn refusal_by(verdict: Verdict, block: &Block) -> Result<Option<Refusal>, AllocError>
-    ensures { IfOk result (λ r. r ≡ refusal_of verdict (slip block.now)) }
+/// Whether an answer admits a block.
+fn is_admitted(answer: &Result<Offered, OfferFault>) -> bool
+    ensures { result ≡ admits answer.now }
 {
-    match verdict {
-        Verdict::Admitted | Verdict::Duplicate => Ok(None),
-        Verdict::Unlinked => Ok(Some(Refusal::Unlinked(BlockRef {
-            num: block.num,
-            id: block.id.clone()?,
-        }))),
-        Verdict::Contradicts(conflict) => Ok(Some(Refusal::Contradicts(conflict))),
-        Verdict::HistoryFull { len } => Ok(Some(Refusal::HistoryFull { len, need: 1 })),
+    match answer {
+        Ok(Offered::Admitted { .. }) => true,
+        Ok(Offered::Duplicate | Offered::Waiting | Offered::Early | Offered::Stale) | Err(_) => {
+            false
+        }
     }
 }
 
-/// Whether an answer admits the block.
-fn is_admitted(verdict: &Verdict) -> bool
-    ensures { result ≡ admits verdict.now }
+/// The refusal that an answer is, if it is one. Nothing closes the relay of a run.
+fn refusal_by(answer: Result<Offered, OfferFault>) -> Result<Option<Refusal>, AllocError>
+    ensures mem { OnOk result (is_mem answer ≡ false) }
+    ensures refusal { (said : Answer) → IsAnswer said answer
+        → IfOk result (λ r. r ≡ refusal_of said) }
 {
-    match verdict {
-        Verdict::Admitted => true,
-        Verdict::Duplicate
-        | Verdict::Unlinked
-        | Verdict::Contradicts(_)
-        | Verdict::HistoryFull { .. } => false,
+    match answer {
+        Ok(Offered::Admitted { dropped, .. }) => Ok(first_clash(dropped)),
+        Ok(Offered::Duplicate | Offered::Waiting | Offered::Early | Offered::Stale) => Ok(None),
+        Err(OfferFault::Closed { .. }) => Ok(None),
+        Err(OfferFault::Conflict(conflict)) => Ok(Some(Refusal::Contradicts(conflict))),
+        Err(OfferFault::HistoryFull { len, need }) => Ok(Some(Refusal::HistoryFull { len, need })),
+        Err(OfferFault::WaitFull { blocks, bytes }) => {
+            Ok(Some(Refusal::WaitFull { blocks, bytes }))
+        }
+        Err(OfferFault::Mem) => Err(AllocError),
     }
 }
 
-/// The answer to a block.
-fn answer(alloc: Global, db: &ForkDb, block: &Block) -> Result<Verdict, AllocError>
-    ensures { IfOk result (λ v. v ≡ judge db.now.history (slip block.now)) }
+/// The first of the conflicts of waiting blocks that were dropped, as a refusal.
+fn first_clash(dropped: Vec<Conflict>) -> Option<Refusal>
+    ensures { result ≡ first_clash_of dropped.items }
 {
-    let len = db.len();
-    match db.can_append(block) {
-        fork_db::Verdict::Fits => Ok(answer_by_room(len)),
-        fork_db::Verdict::IdHeld => answer_held(alloc, db, block),
-        fork_db::Verdict::NoParent => Ok(Verdict::Unlinked),
-        fork_db::Verdict::ParentNumber => answer_parent(alloc, db, block),
-        fork_db::Verdict::Disagrees => answer_tip(alloc, db, block),
+    match dropped.into_iter().next() {
+        Some(conflict) => Some(Refusal::Contradicts(conflict)),
+        None => None,
     }
-}
-
-/// The answer to a block that may come next.
-fn answer_by_room(len: u64) -> Verdict
-    ensures { (newest : List Slip) → len ≡ length newest → result ≡ judge_room newest }
-{
-    if len == HISTORY_BLOCKS_MAX {
-        Verdict::HistoryFull { len }
-    } else {
-        Verdict::Admitted
-    }
-}
-
-/// The answer to a block whose id is held.
-fn answer_held(alloc: Global, db: &ForkDb, block: &Block) -> Result<Verdict, AllocError>
-    requires { verdict_of db.now.history (slip block.now) ≡ verdict.IdHeld }
-    ensures { IfOk result (λ v. v ≡ judge db.now.history (slip block.now)) }
-{
-    let offered = slip_of(alloc, block)?;
-    let at = db.find(&block.id).unwrap();
-    let held = db.slip(at);
-    if is_same(held, &offered) {
-        Ok(Verdict::Duplicate)
-    } else {
-        contradiction(ConflictKind::Id, held, &offered)
-    }
-}
-
-/// The answer to a block whose parent is held with another number than it names.
-fn answer_parent(alloc: Global, db: &ForkDb, block: &Block) -> Result<Verdict, AllocError>
-    requires { verdict_of db.now.history (slip block.now) ≡ verdict.ParentNumber }
-    ensures { IfOk result (λ v. v ≡ judge db.now.history (slip block.now)) }
-{
-    let at = db.find(&block.parent_id).unwrap();
-    let parent = db.slip(at);
-    let root = db.slip(0);
-    if block.num <= root.num {
-        return Ok(Verdict::Unlinked);
-    }
-    let offered = slip_of(alloc, block)?;
-    contradiction(ConflictKind::Parent, parent, &offered)
-}
-
-/// The answer to a block whose claim and the final tip are not on one path.
-fn answer_tip(alloc: Global, db: &ForkDb, block: &Block) -> Result<Verdict, AllocError>
-    requires sound { IsHistory db.now.history }
-    requires disagrees { verdict_of db.now.history (slip block.now) ≡ verdict.Disagrees }
-    ensures { IfOk result (λ v. v ≡ judge db.now.history (slip block.now)) }
-{
-    let at = db.final_tip().unwrap();
-    let tip = db.slip(at);
-    let offered = slip_of(alloc, block)?;
-    contradiction(ConflictKind::Finality, tip, &offered)
-}
-
-/// Whether two blocks are the same.
-fn is_same(a: &Slip, b: &Slip) -> bool
-    ensures { result ≡ same_slip a.now b.now }
-{
-    a == b
 }

@@ -6,17 +6,15 @@ ghost use Rattle.block_record.specs.declared.blocks.Slip.{Slip};
 ghost use Rattle.block_record.specs.Slips.{slip};
 ghost use Rattle.fire_lines.specs.Reader.{state_after, AreFurther};
 ghost use Rattle.fire_lines.specs.Text.{received};
-ghost use Rattle.step_text.specs.StepText.{line_max, step_text};
+ghost use Rattle.step_text.specs.Limits.{line_max};
+ghost use Rattle.step_text.specs.StepText.{step_text};
 ghost use Rattle.fire_tool.specs.Telling.{IsUnderWay, IsEnded, ReadsPiece, end_for, ending_seen};
 
-use crate::following::Follower;
+use crate::following::{Follower, LIMITS};
 use block_record::Block;
 use fire_lines::{LineFault, LineReader, text_goes_on};
 use std::alloc::{AllocError, Global};
 use step_text::Refusal;
-
-/// The most bytes of a line.
-pub const LINE_BYTES_MAX: usize = 67_108_864;
 
 /// What ended a run before the end of its input.
 #[derive(PartialEq, Eq, Debug, Drop)]
@@ -29,21 +27,21 @@ pub enum RunEnd {
 #[derive(Drop)]
 pub struct Progress {
     pub reader: LineReader,
-    /// The history, and where a client stands that was told everything.
+    /// The relay, and where a client stands that was told everything.
     pub follower: Follower,
     /// The step lines of the last piece.
     pub text: Vec<u8>,
 }
 
 impl Progress {
-    /// A run that has taken nothing.
-    pub fn new(alloc: Global) -> Result<Progress, AllocError>
+    /// A run that has taken nothing, for blocks with numbers of at least `first`.
+    pub fn new(alloc: Global, first: u64) -> Result<Progress, AllocError>
         ensures { IfOk result
-            (λ p. IsUnderWay [] [] p.reader p.follower.history p.follower.place) }
+            (λ p. IsUnderWay first [] [] p.reader p.follower.world p.follower.place) }
     {
         Ok(Progress {
-            reader: LineReader::new(alloc, LINE_BYTES_MAX),
-            follower: Follower::new(alloc)?,
+            reader: LineReader::new(alloc, LIMITS.line as usize),
+            follower: Follower::new(alloc, first)?,
             text: Vec::new(alloc),
         })
     }
@@ -51,21 +49,21 @@ impl Progress {
     /// Takes a further piece of the input, tells its steps to `text`, and says what ended the run, if
     /// the piece did.
     pub fn take_piece(&mut self, alloc: Global, piece: &[u8]) -> Result<Option<RunEnd>, AllocError>
-        ensures taken { (input told : List ℕ)
-            → IsUnderWay input told self.old.reader self.old.follower.history self.old.follower.place
+        ensures taken { (first : ℕ) (input told : List ℕ)
+            → IsUnderWay first input told self.old.reader self.old.follower.world self.old.follower.place
             → IfOk result (λ end. MatchOption end
-            (IsUnderWay (input ++ piece.now) (told ++ self.new.text.items)
-            self.new.reader self.new.follower.history self.new.follower.place)
-            (λ e. IsEnded (input ++ piece.now) (told ++ self.new.text.items) (ending_seen e))) }
-        ensures memory { (input told : List ℕ)
-            → IsUnderWay input told self.old.reader self.old.follower.history self.old.follower.place
-            → OnErr result (IsPrefix told (step_text (input ++ piece.now)).text) }
+            (IsUnderWay first (input ++ piece.now) (told ++ self.new.text.items)
+            self.new.reader self.new.follower.world self.new.follower.place)
+            (λ e. IsEnded first (input ++ piece.now) (told ++ self.new.text.items) (ending_seen e))) }
+        ensures memory { (first : ℕ) (input told : List ℕ)
+            → IsUnderWay first input told self.old.reader self.old.follower.world self.old.follower.place
+            → OnErr result (IsPrefix told (step_text first (input ++ piece.now)).text) }
     {
         text_goes_on();
         self.text.clear();
         let mut blocks = Vec::new(alloc);
         let fault = read_piece(&mut self.reader, piece, &mut blocks)?;
-        let refusal = self.follower.tell(alloc, blocks, &mut self.text)?;
+        let refusal = self.follower.tell(blocks, &mut self.text)?;
         Ok(end_of(refusal, fault))
     }
 }

@@ -67,12 +67,12 @@ fn take_piece<O: Sink>(
     progress: &mut Progress,
     output: &mut O,
 ) -> Result<Option<RunEnd>, StepsStop>
-    ensures taken { (input told : List ℕ) (start : Option (List ℕ))
-        → IsUnderWay input told progress.old.reader progress.old.follower.history progress.old.follower.place
+    ensures taken { (first : ℕ) (input told : List ℕ) (start : Option (List ℕ))
+        → IsUnderWay first input told progress.old.reader progress.old.follower.world progress.old.follower.place
         → Grows start (O.written output.old) told
-        → PieceTaken (input ++ piece.now) start (O.written output.new)
+        → PieceTaken first (input ++ piece.now) start (O.written output.new)
         (O.write_faults output.old) (O.write_faults output.new)
-        progress.new.reader progress.new.follower.history progress.new.follower.place result }
+        progress.new.reader progress.new.follower.world progress.new.follower.place result }
     ensures faults { O.write_faults output.old ≤ O.write_faults output.new }
 {
     let Ok(end) = progress.take_piece(alloc, piece) else {
@@ -100,9 +100,11 @@ fn ended_by(alloc: Global, end: &RunEnd) -> Result<Ended, StepsStop>
     }
 }
 
-/// Reads the input piece by piece, and writes the steps of each piece before it reads the next.
+/// Reads the input piece by piece, and writes the steps of each piece before it reads the next. Blocks
+/// with numbers below `first` are passed over.
 pub fn run_steps<I: Source, O: Sink>(
     alloc: Global,
+    first: u64,
     input: &mut I,
     output: &mut O,
 ) -> Result<Ended, StepsStop>
@@ -112,32 +114,12 @@ pub fn run_steps<I: Source, O: Sink>(
         let after = flow (I.left input.new) (I.given input.new) (I.read_faults input.new)
         (O.written output.new) (O.write_faults output.new) in
         MatchResult result
-        (λ e. Answered before after e.line.items e.status)
-        (λ stop. Stopped stop before after) }
+        (λ e. Answered first before after e.line.items e.status)
+        (λ stop. Stopped first stop before after) }
 {
-    let Ok(progress) = Progress::new(alloc) else {
+    let Ok(mut progress) = Progress::new(alloc, first) else {
         return Err(StepsStop::Mem);
     };
-    run_from(alloc, progress, input, output)
-}
-
-/// The same, from a run that has taken nothing.
-fn run_from<I: Source, O: Sink>(
-    alloc: Global,
-    mut progress: Progress,
-    input: &mut I,
-    output: &mut O,
-) -> Result<Ended, StepsStop>
-    requires { IsUnderWay [] [] progress.reader progress.follower.history progress.follower.place }
-    ensures answer { IfOk result (λ e. IsAnswer e.status) }
-    ensures done { let before = flow (I.left input.old) (I.given input.old) (I.read_faults input.old)
-        (O.written output.old) (O.write_faults output.old) in
-        let after = flow (I.left input.new) (I.given input.new) (I.read_faults input.new)
-        (O.written output.new) (O.write_faults output.new) in
-        MatchResult result
-        (λ e. Answered before after e.line.items e.status)
-        (λ stop. Stopped stop before after) }
-{
     let mut buf = [0; 65_536];
     let mut taken = 0;
     while taken < TEXT_BYTES_MAX {

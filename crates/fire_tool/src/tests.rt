@@ -1,9 +1,4 @@
-use crate::following::Follower;
-use crate::progress::LINE_BYTES_MAX;
 use crate::run::run_plain;
-use block_record::Block;
-use chain_model::Place;
-use fire_lines::LineReader;
 use memory_world::{
     FailingSink, FailingSource, MemoryShelf, MemorySink, MemorySource, PiecesSource,
 };
@@ -11,31 +6,35 @@ use outer_world::{Sink, Source};
 use std::alloc::{AllocError, Global};
 use std::process::Abort;
 use std::test::Fail;
-use step_text::tell_plainly;
 
 #[derive(Clone, Copy)]
 struct Row {
     shows: &'static str,
+    words: &'static str,
     input: &'static [u8],
     output: &'static [u8],
     error: &'static [u8],
     status: u8,
 }
 
+const CHAIN_INPUT: &[u8] = b"FIRE INIT 3.0 test.Block\n\
+    FIRE BLOCK 1 a1 0 a0 0 0 AQ==\n\
+    FIRE BLOCK 2 b2 1 a1 1 0 AQ==\n\
+    FIRE BLOCK 3 c3 2 b2 2 0 AQ==\n";
+
 const CHAIN: Row = Row {
     shows: "a chain whose second block becomes final",
-    input: b"FIRE INIT 3.0 test.Block\n\
-        FIRE BLOCK 1 a1 0 a0 0 0 AQ==\n\
-        FIRE BLOCK 2 b2 1 a1 1 0 AQ==\n\
-        FIRE BLOCK 3 c3 2 b2 2 0 AQ==\n",
+    words: "steps",
+    input: CHAIN_INPUT,
     output: b"newfinal 1 a1\nnew 2 b2\nfinal 2 b2\nnew 3 c3\n",
     error: b"",
     status: 0,
 };
 
-const ROWS: [Row; 16] = [
+const ROWS: [Row; 20] = [
     Row {
         shows: "no input",
+        words: "steps",
         input: b"",
         output: b"",
         error: b"",
@@ -43,6 +42,7 @@ const ROWS: [Row; 16] = [
     },
     Row {
         shows: "a root",
+        words: "steps",
         input: b"FIRE INIT 3.0 test.Block\n\
             FIRE BLOCK 1 a1 0 a0 0 0 AQ==\n",
         output: b"newfinal 1 a1\n",
@@ -52,6 +52,7 @@ const ROWS: [Row; 16] = [
     CHAIN,
     Row {
         shows: "a tie, which sends nothing, and then a longer branch",
+        words: "steps",
         input: b"FIRE INIT 3.0 test.Block\n\
             FIRE BLOCK 1 a1 0 a0 0 0 AQ==\n\
             FIRE BLOCK 2 b2 1 a1 1 0 AQ==\n\
@@ -63,6 +64,7 @@ const ROWS: [Row; 16] = [
     },
     Row {
         shows: "a tie alone",
+        words: "steps",
         input: b"FIRE INIT 3.0 test.Block\n\
             FIRE BLOCK 1 a1 0 a0 0 0 AQ==\n\
             FIRE BLOCK 2 b2 1 a1 1 0 AQ==\n\
@@ -73,6 +75,7 @@ const ROWS: [Row; 16] = [
     },
     Row {
         shows: "late finality that rules out a higher branch, and a block of that branch",
+        words: "steps",
         input: b"FIRE INIT 3.0 test.Block\n\
             FIRE BLOCK 1 a1 0 a0 0 0 AQ==\n\
             FIRE BLOCK 2 b2 1 a1 1 0 AQ==\n\
@@ -87,6 +90,7 @@ const ROWS: [Row; 16] = [
     },
     Row {
         shows: "a repeated block",
+        words: "steps",
         input: b"FIRE INIT 3.0 test.Block\n\
             FIRE BLOCK 1 a1 0 a0 0 0 AQ==\n\
             FIRE BLOCK 2 b2 1 a1 1 0 AQ==\n\
@@ -97,6 +101,7 @@ const ROWS: [Row; 16] = [
     },
     Row {
         shows: "a held id with another payload",
+        words: "steps",
         input: b"FIRE INIT 3.0 test.Block\n\
             FIRE BLOCK 1 a1 0 a0 0 0 AQ==\n\
             FIRE BLOCK 2 b2 1 a1 1 0 AQ==\n\
@@ -107,6 +112,7 @@ const ROWS: [Row; 16] = [
     },
     Row {
         shows: "a parent of another number",
+        words: "steps",
         input: b"FIRE INIT 3.0 test.Block\n\
             FIRE BLOCK 1 a1 0 a0 0 0 AQ==\n\
             FIRE BLOCK 3 c3 2 a1 1 0 AQ==\n",
@@ -115,17 +121,58 @@ const ROWS: [Row; 16] = [
         status: 6,
     },
     Row {
-        shows: "a parent that is not held",
+        shows: "a block that waits for its parent",
+        words: "steps",
         input: b"FIRE INIT 3.0 test.Block\n\
             FIRE BLOCK 1 a1 0 a0 0 0 AQ==\n\
             FIRE BLOCK 3 c3 2 b2 1 0 AQ==\n\
             FIRE BLOCK 2 b2 1 a1 1 0 AQ==\n",
-        output: b"newfinal 1 a1\n",
-        error: b"fire: unlinked 3 c3\n",
-        status: 12,
+        output: b"newfinal 1 a1\nnew 2 b2\nnew 3 c3\n",
+        error: b"",
+        status: 0,
+    },
+    Row {
+        shows: "a block that waited and contradicts the one that followed before it",
+        words: "steps",
+        input: b"FIRE INIT 3.0 test.Block\n\
+            FIRE BLOCK 1 a1 0 a0 0 0 AQ==\n\
+            FIRE BLOCK 3 x3 2 b2 3 0 AQ==\n\
+            FIRE BLOCK 3 y3 2 b2 3 0 AQ==\n\
+            FIRE BLOCK 2 b2 1 a1 1 0 AQ==\n",
+        output: b"newfinal 1 a1\nnewfinal 2 b2\nnewfinal 3 x3\n",
+        error: b"fire: conflict finality held 3 x3 offered 3 y3\n",
+        status: 6,
+    },
+    Row {
+        shows: "a block beside the root, which is passed over",
+        words: "steps",
+        input: b"FIRE INIT 3.0 test.Block\n\
+            FIRE BLOCK 5 e5 4 d4 0 0 AQ==\n\
+            FIRE BLOCK 5 f5 4 d4 0 0 AQ==\n\
+            FIRE BLOCK 6 e6 5 e5 0 0 AQ==\n",
+        output: b"newfinal 5 e5\nnew 6 e6\n",
+        error: b"",
+        status: 0,
+    },
+    Row {
+        shows: "a first number above the first block's",
+        words: "steps --first 2",
+        input: CHAIN_INPUT,
+        output: b"newfinal 2 b2\nnew 3 c3\n",
+        error: b"",
+        status: 0,
+    },
+    Row {
+        shows: "a first number in one word with its option",
+        words: "steps --first=4",
+        input: CHAIN_INPUT,
+        output: b"",
+        error: b"",
+        status: 0,
     },
     Row {
         shows: "a claim between skipped numbers",
+        words: "steps",
         input: b"FIRE INIT 3.0 test.Block\n\
             FIRE BLOCK 1 a1 0 a0 0 0 AQ==\n\
             FIRE BLOCK 2 b2 1 a1 1 0 AQ==\n\
@@ -136,6 +183,7 @@ const ROWS: [Row; 16] = [
     },
     Row {
         shows: "ids of 64 digits, a log line between, and lines ended by CR LF",
+        words: "steps",
         input: b"INFO starting node\r\n\
             FIRE INIT 3.0 sf.ethereum.type.v2.Block\r\n\
             FIRE BLOCK 18571000 \
@@ -155,6 +203,7 @@ const ROWS: [Row; 16] = [
     },
     Row {
         shows: "number 0 and an empty payload",
+        words: "steps",
         input: b"FIRE INIT 3.0 test.Block\n\
             FIRE BLOCK 0 g0 0 z0 0 0 \n",
         output: b"newfinal 0 g0\n",
@@ -163,6 +212,7 @@ const ROWS: [Row; 16] = [
     },
     Row {
         shows: "a bad line after a block",
+        words: "steps",
         input: b"FIRE INIT 3.0 test.Block\n\
             FIRE BLOCK 1 a1 0 a0 0 0 AQ==\n\
             FIRE BLOCK 007 b2 1 a1 1 0 AQ==\n\
@@ -173,6 +223,7 @@ const ROWS: [Row; 16] = [
     },
     Row {
         shows: "an input cut in the middle of a line",
+        words: "steps",
         input: b"FIRE INIT 3.0 test.Block\n\
             FIRE BLOCK 1 a1 0 a0 0 0 AQ==\n\
             FIRE BLOCK 2 b2 1 a1 1 0 AQ=",
@@ -182,6 +233,7 @@ const ROWS: [Row; 16] = [
     },
     Row {
         shows: "a block before the opening line",
+        words: "steps",
         input: b"FIRE BLOCK 1 a1 0 a0 0 0 AQ==\n",
         output: b"",
         error: b"fire: line 1: no init\n",
@@ -189,14 +241,14 @@ const ROWS: [Row; 16] = [
     },
 ];
 
-/// Runs `steps`, and compares what came with the row.
+/// Runs the words of the row, and compares what came with it.
 fn check<I: Source>(
     rt: &impl Abort,
     alloc: Global,
     row: &Row,
     input: &mut I,
 ) -> Result<(), AllocError> {
-    let words = words_of(alloc, "steps")?;
+    let words = words_of(alloc, row.words)?;
     let mut output = MemorySink::new(alloc, 1024)?;
     let mut errors = MemorySink::new(alloc, 1024)?;
     let shelf = &mut MemoryShelf::new(alloc);
@@ -249,11 +301,23 @@ fn pieces_make_no_difference(rt: HostRuntime) -> Result<(), Fail> {
     Ok(())
 }
 
+const WRONG_WORDS: &[&str] = &[
+    "",
+    "Steps",
+    "steps --first",
+    "steps --first 02",
+    "steps --first=",
+    "steps --first -1",
+    "steps --first 18446744073709551616",
+    "steps --first 1 --first 1",
+    "steps --from 2",
+];
+
 #[test]
 fn other_words_are_refused(rt: HostRuntime) -> Result<(), Fail> {
     let alloc = rt.alloc();
     let text = b"FIRE INIT 3.0 t\n";
-    for line in ["", "Steps", "steps --first 2"] {
+    for line in WRONG_WORDS {
         let words = words_of(alloc, line)?;
         let mut input = MemorySource::new(Vec::from_slice(alloc, text)?);
         let mut output = MemorySink::new(alloc, 64)?;
@@ -396,43 +460,4 @@ fn a_failed_error_line_changes_nothing(rt: HostRuntime) -> Result<(), Fail> {
     assert_eq!(rt; status.code, 0);
     assert!(rt; output.written() == Some(CHAIN.output));
     Ok(())
-}
-
-#[test]
-fn the_follower_tells_what_the_slow_body_tells(rt: HostRuntime) -> Result<(), Fail> {
-    for row in ROWS {
-        check_told_alike(&rt, rt.alloc(), row)?;
-    }
-    Ok(())
-}
-
-fn check_told_alike(rt: &impl Abort, alloc: Global, row: Row) -> Result<(), AllocError> {
-    let mut follower = Follower::new(alloc)?;
-    let mut text = Vec::new(alloc);
-    let refusal = follower.tell(alloc, blocks_of(alloc, row.input)?, &mut text)?;
-    let blocks = blocks_of(alloc, row.input)?;
-    let mut history = Vec::new(alloc);
-    let mut place = Place {
-        end: None,
-        lib: None,
-    };
-    let mut plain = Vec::new(alloc);
-    let wanted = tell_plainly(
-        alloc,
-        blocks.as_slice(),
-        &mut history,
-        &mut place,
-        &mut plain,
-    )?;
-    assert!(rt; text == plain, "{}", row.shows);
-    assert!(rt; refusal == wanted, "{}", row.shows);
-    Ok(())
-}
-
-/// The blocks of lines up to the first bad one.
-fn blocks_of(alloc: Global, input: &[u8]) -> Result<Vec<Block>, AllocError> {
-    let mut reader = LineReader::new(alloc, LINE_BYTES_MAX);
-    let mut blocks = Vec::new(alloc);
-    let _ = reader.feed(input, &mut blocks);
-    Ok(blocks)
 }

@@ -6,5 +6,5 @@ use Rattle.fire_tool.proofs.following.Follower.tell.Given as goal
 
 abbrev pub invariant-loop-block : goal.invariant-loop-block
 invariant-loop-block l =
-    (more : List Slip) → prepend l.text.items (tell (map slip l.block-iterator.rest.items ++ more) l.self.history l.self.place)
-    ≡ prepend l.fn.text.items (tell (map slip l.fn.blocks.items ++ more) l.fn.self.history l.fn.self.place)
+    (more : List Slip) → prepend l.text.items (tell (map slip l.block-iterator.rest.items ++ more) l.self.world l.self.place)
+    ≡ prepend l.fn.text.items (tell (map slip l.fn.blocks.items ++ more) l.fn.self.world l.fn.self.place)
