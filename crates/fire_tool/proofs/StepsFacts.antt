@@ -9,6 +9,7 @@ use Rattle.outer_world.specs.Told.{Grows, GrowsByFront, Took}
 use Rattle.outer_world.proofs.Fronts.{grows_twice}
 use Rattle.outer_world.proofs.TakenFacts.{took_more}
 use Rattle.fire_lines.specs.Reader.{ReaderState}
+use Rattle.step_laws.proofs.ScratchFacts.{step_text_from_scratch}
 use Rattle.fire_tool.specs.declared.progress.RunEnd.{RunEnd}
 use Rattle.fire_tool.specs.declared.steps.Ended.{Ended}
 use Rattle.fire_tool.specs.declared.steps.StepsStop.{StepsStop}
@@ -137,6 +138,7 @@ ends_whole first before mid left given read_faults reader world place count line
       line_is = none ∙ ap (λ x. ending_line x.ending) (sym text);
       at_end = λ _. end;
       ended = λ other. absurd (other refl);
+      scratch = λ _. step_text_from_scratch first i.input (ap (λ x. x.ending) text);
     }
 
 -- a read failed
@@ -202,6 +204,7 @@ ends_in_piece first before mid left given written read_faults write_faults reade
   line_is = line_is ∙ ap (λ x. ending_line x.ending) (sym h.1.text);
   at_end = λ zero_is. absurd (no_end_status status known zero_is);
   ended = λ _. h.1.stays;
+  scratch = λ zero_is. absurd (no_end_status status known zero_is);
 }
 
 -- there was no memory for its line

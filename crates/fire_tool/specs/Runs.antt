@@ -8,6 +8,9 @@ use Rattle.outer_world.specs.Told.{Grows, GrowsByFront, Took}
 use Rattle.block_record.specs.Number.{number_of}
 use Rattle.fire_tool.specs.declared.steps.StepsStop.{StepsStop}
 use Rattle.fire_tool.specs.declared.steps.StepsStop.TheVariants.{Mem, Read, Write, TooLong}
+use Rattle.relay_model.specs.Orders.{linked_order}
+use Rattle.step_laws.specs.Laws.{AreOrderly, TellsHead}
+use Rattle.step_laws.specs.Telling.{blocks_of}
 use Rattle.step_text.specs.StepText.{step_text}
 use Rattle.fire_tool.specs.ErrorLines.{ending_line, ending_status}
 
@@ -59,6 +62,8 @@ pub record Answered (first : ℕ) (before after : Flow) (line : List ℕ) (statu
   pub line_is : line ≡ ending_line (step_text first input).ending
   pub at_end : status ≡ 0 → IsAtEnd after.left
   pub ended : status ≢ 0 → (rest : List ℕ) → step_text first (input ++ rest) ≡ step_text first input
+  -- at 0 the steps lead to the head of the order from scratch of the input's blocks, where each id is of one of them and the claims of that order agree
+  pub scratch : status ≡ 0 → AreOrderly first (blocks_of input) → TellsHead (step_text first input).text (linked_order first (blocks_of input))
 
 -- there was no memory: a front of the step text of the bytes taken stands written
 pub record RanOut (first : ℕ) (before after : Flow) : Type 0 where

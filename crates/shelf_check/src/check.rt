@@ -30,7 +30,6 @@ pub struct Report {
 pub fn check_shelf<S: Shelf>(alloc: Global, shelf: &mut S) -> Result<Report, LoadFault>
     ensures answer { CheckAnswers (S.files shelf.old)
         (S.shelf_faults shelf.old) (S.shelf_faults shelf.new) result }
-    // What the first clause leaves open: where the files are good, none of them is refused.
     ensures good { (numbers : Numbers) → IsGoodShelf (S.files shelf.old) numbers →
         IsReported numbers (S.shelf_faults shelf.old) (S.shelf_faults shelf.new) result }
     ensures files { S.files shelf.new ≡ S.files shelf.old }
