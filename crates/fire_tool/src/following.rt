@@ -244,11 +244,11 @@ fn refusal_by(answer: Result<Offered, OfferFault>) -> Result<Option<Refusal>, Al
 }
 
 /// The first of the conflicts of waiting blocks that were dropped, as a refusal.
-fn first_clash(dropped: Vec<Conflict>) -> Option<Refusal>
+fn first_clash(mut dropped: Vec<Conflict>) -> Option<Refusal>
     ensures { result ≡ first_clash_of dropped.items }
 {
-    match dropped.into_iter().next() {
-        Some(conflict) => Some(Refusal::Contradicts(conflict)),
-        None => None,
+    if dropped.is_empty() {
+        return None;
     }
+    Some(Refusal::Contradicts(dropped.swap_remove(0)))
 }
