@@ -22,7 +22,7 @@ use Rattle.fork_db.specs.declared.batches.Batch.{Batch}
 use Rattle.fork_db.specs.declared.chunks.StepAt.{StepAt}
 use Rattle.fork_db.specs.Batches.{IsGiven, WasGiven, step_seen}
 use Rattle.relay_model.specs.Worlds.{World}
-use Rattle.relay_model.specs.Offers.{Answer, Closed, Duplicate, Conflict, Early, Stale, WaitFull, Waiting, HistoryFull, Admitted, Offer, offered}
+use Rattle.relay_model.specs.Offers.{Answer, offered}
 use Rattle.relay_model.specs.Soundness.{IsBlock, IsSound}
 use Rattle.relay_model.proofs.Sound.{offer_keeps, offer_grows}
 use Rattle.block_relay.specs.declared.answers.Offered.{Offered}

@@ -7,7 +7,6 @@ use Rattle.relay_model.specs.Soundness.{IsSound}
 use Rattle.block_relay.specs.declared.answers.Offered.{Offered}
 use Rattle.block_relay.specs.declared.answers.Offered.TheVariants as answer
 use Rattle.block_relay.specs.declared.answers.OfferFault.{OfferFault}
-use Rattle.block_relay.specs.declared.payloads.Payloads.{Payloads}
 use Rattle.block_relay.specs.declared.payloads.Payloads.TheVariants.{LetGo}
 use Rattle.block_relay.specs.Chronicle.{Told, world_told}
 

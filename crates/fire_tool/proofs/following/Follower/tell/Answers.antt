@@ -1,4 +1,4 @@
-use Rattle.std.proofs.Common.{rules, sym, ◌∙◌, ap, subst, ◌≡◌, ◌∷◌, ◌++◌, [], None, map}
+use Rattle.std.proofs.Common.{rules, sym, ◌∙◌, ap, subst, ◌≡◌, ◌∷◌, ◌++◌, [], map}
 use Rattle.block_record.specs.Slips.{slip}
 use Rattle.step_text.specs.StepText.{tell, prepend}
 use Rattle.step_text.specs.Taken.{IsTaken}
