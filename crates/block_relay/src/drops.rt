@@ -1,6 +1,6 @@
 //! What an admission drops.
 
-ghost use Rattle.std.specs.Prelude.{◌≡◌, ◌<◌, ◌+◌, ◌∷◌, [], IfOk, reverse, vec_len, vec_capacity};
+ghost use Rattle.std.specs.Prelude.{◌≡◌, ◌<◌, ◌≤◌, ◌+◌, ◌∷◌, [], IfOk, OnOk, reverse, vec_len};
 ghost use Rattle.relay_model.specs.Offers.{conflict};
 
 use block_record::{Slip, SlipBuffer};
@@ -10,7 +10,7 @@ use std::marker::Model;
 
 /// Memory for the two conflicts of a block that is dropped, of which its own slip serves for one.
 #[derive(Drop)]
-struct Buffers {
+pub struct Buffers {
     noted_held: SlipBuffer,
     noted_offered: SlipBuffer,
     told_held: SlipBuffer,
@@ -33,7 +33,19 @@ impl Buffers {
 pub struct Drops {
     noted: Vec<Conflict>,
     told: Vec<Conflict>,
+    /// At least as many as may be dropped.
     buffers: Vec<Buffers>,
+    left: usize,
+}
+
+/// What an admission dropped, and the memory that it did not use.
+#[derive(Drop)]
+pub struct Dropped {
+    /// The conflicts to be noted, in the order of dropping.
+    pub noted: Vec<Conflict>,
+    /// The same, to be told.
+    pub told: Vec<Conflict>,
+    pub buffers: Vec<Buffers>,
 }
 
 impl Model for Drops {
@@ -42,24 +54,26 @@ impl Model for Drops {
 
     ghost Value = { Dropping };
 
-    ghost view = { λ d. record { conflicts = reverse d.told.items; spare = vec_len d.buffers } };
+    ghost view = { λ d. record { conflicts = reverse d.told.items; spare = d.left } };
 
     ghost invariant = { λ d. (d.noted.items ≡ d.told.items)
-        × (vec_len d.noted + vec_len d.buffers ≤ vec_capacity d.noted)
-        × (vec_len d.told + vec_len d.buffers ≤ vec_capacity d.told) };
+        × (d.left ≤ vec_len d.buffers)
+        × (vec_len d.noted + d.left ≤ vec_capacity d.noted)
+        × (vec_len d.told + d.left ≤ vec_capacity d.told) };
 }
 
 impl Drops {
-    /// Nothing is dropped, and there is memory for so many.
-    pub fn new(alloc: Global, most: usize) -> Result<Drops, AllocError>
+    /// Nothing is dropped, and there is memory for so many, with what is left of earlier times.
+    pub fn new(alloc: Global, most: usize, mut buffers: Vec<Buffers>) -> Result<Drops, AllocError>
         ensures conflicts { IfOk result (λ d. d.conflicts ≡ []) }
         ensures spare { IfOk result (λ d. d.spare ≡ most) }
     {
-        let buffers = make_buffers(alloc, most)?;
+        add_buffers(alloc, most, &mut buffers)?;
         Ok(Drops {
             noted: Vec::with_capacity(alloc, most)?,
             told: Vec::with_capacity(alloc, most)?,
             buffers,
+            left: most,
         })
     }
 
@@ -71,6 +85,7 @@ impl Drops {
         ensures spare { self.new.spare + 1 ≡ self.old.spare }
     {
         let buffers = self.buffers.take_last();
+        self.left -= 1;
         self.noted.push_reserved(Conflict {
             kind,
             held: buffers.noted_held.copy(held),
@@ -83,22 +98,36 @@ impl Drops {
         });
     }
 
-    /// The conflicts to be noted and those to be told, the same, in the order of dropping.
-    pub fn into_lists(self) -> (Vec<Conflict>, Vec<Conflict>)
-        ensures noted { reverse result.0.items ≡ self.conflicts }
-        ensures told { reverse result.1.items ≡ self.conflicts }
+    /// What was dropped.
+    pub fn finish(self) -> Dropped
+        ensures noted { reverse result.noted.items ≡ self.conflicts }
+        ensures told { reverse result.told.items ≡ self.conflicts }
     {
-        let Drops { noted, told, .. } = self;
-        (noted, told)
+        let Drops {
+            noted,
+            told,
+            buffers,
+            ..
+        } = self;
+        Dropped {
+            noted,
+            told,
+            buffers,
+        }
     }
 }
 
-fn make_buffers(alloc: Global, most: usize) -> Result<Vec<Buffers>, AllocError>
-    ensures { IfOk result (λ buffers. vec_len buffers ≡ most) }
+/// Adds buffers until there are so many.
+fn add_buffers(alloc: Global, most: usize, buffers: &mut Vec<Buffers>) -> Result<(), AllocError>
+    ensures { OnOk result (most ≤ vec_len buffers.new) }
 {
-    let mut buffers = Vec::with_capacity(alloc, most)?;
-    for _ in 0..most {
-        buffers.push_reserved(Buffers::new(alloc)?);
+    let len = buffers.len();
+    if most <= len {
+        return Ok(());
     }
-    Ok(buffers)
+    for _ in len..most {
+        let more = Buffers::new(alloc)?;
+        buffers.push(more)?;
+    }
+    Ok(())
 }

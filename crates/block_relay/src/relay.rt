@@ -21,7 +21,7 @@ ghost use Rattle.block_relay.specs.Held.{HasBlock};
 ghost use Rattle.block_relay.specs.Judged.{verdict_of_judged};
 
 use crate::answers::{KindFault, OfferFault, Offered};
-use crate::drops::Drops;
+use crate::drops::{Buffers, Drops};
 use crate::judged::{Judged, judge_open};
 use crate::limits::Limits;
 use crate::marks::Mark;
@@ -33,6 +33,7 @@ use relay_look::{Look, LookFault, Position, look};
 use relay_model::{Conflict, ConflictKind};
 use std::alloc::{AllocError, Global};
 use std::marker::Model;
+use std::mem;
 use std::sync::Arc;
 use step_cursor::Request;
 use wait_room::WaitRoom;
@@ -54,6 +55,8 @@ pub struct Relay {
     conflicts: Vec<Conflict>,
     closed: bool,
     payloads: Payloads,
+    /// Memory for conflicts, which admissions use again.
+    spare: Vec<Buffers>,
     alloc: Global,
 }
 
@@ -109,6 +112,7 @@ impl Relay {
             conflicts: Vec::new(alloc),
             closed: false,
             payloads,
+            spare: Vec::new(alloc),
             alloc,
         })
     }
@@ -391,19 +395,21 @@ impl Relay {
     {
         let from = self.db.len();
         let follow = make_room(&mut self.db, &self.room, &slip.id)?;
-        let mut drops = Drops::new(self.alloc, follow as usize)?;
+        let spare = mem::replace(&mut self.spare, Vec::new(self.alloc));
+        let mut drops = Drops::new(self.alloc, follow as usize, spare)?;
         reserve_admitted(&mut self.marks, &mut self.conflicts, follow)?;
         let root_kind = kind_of_root(self.alloc, from, &self.kind)?;
         admit(&mut self.db, &mut self.room, &mut drops, slip, block);
         let count = self.db.len() - from;
         keep_root_kind(&mut self.kind, &mut self.marks, root_kind);
         mark_admitted(&mut self.marks, count);
-        let (mut noted, dropped) = drops.into_lists();
-        let _ = self.conflicts.append(&mut noted);
+        let mut dropped = drops.finish();
+        let _ = self.conflicts.append(&mut dropped.noted);
+        self.spare = dropped.buffers;
         Ok(Offered::Admitted {
             from,
             count,
-            dropped,
+            dropped: dropped.told,
         })
     }
 }

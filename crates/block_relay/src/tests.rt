@@ -1,12 +1,16 @@
 //! Small relays, with answers worked out by hand.
 
-use crate::{ConflictKind, KindFault, Limits, OfferFault, Offered, Payloads, Relay};
+use crate::{
+    ConflictKind, KindFault, Limits, Look, OfferFault, Offered, Payloads, Position, Relay,
+};
 use block_record::{Block, Bytes, Id, Kind, Slip, TypeName, Version};
+use chain_model::{Mode, Step};
 use sha2::{Digest, Sha256};
 use std::alloc::{AllocError, Global};
 use std::process::Abort;
 use std::sync::Arc;
 use std::test::Fail;
+use step_cursor::{Request, parse_cursor};
 
 /// A block's number and id, its parent's number and id, and its lib number.
 type Fields = (u64, &'static str, u64, &'static str, u64);
@@ -96,6 +100,25 @@ const FULL: Offers = &[
     ((5, "h5", 4, "d4", 1), Answer::Admitted(4, 1, 0)),
 ];
 
+/// The same without what comes then.
+const BRANCHES: Offers = &[
+    ((1, "a1", 0, "a0", 0), Answer::Admitted(0, 1, 0)),
+    ((2, "b2", 1, "a1", 1), Answer::Admitted(1, 1, 0)),
+    ((3, "b3", 2, "b2", 1), Answer::Admitted(2, 1, 0)),
+    ((4, "b4", 3, "b3", 1), Answer::Admitted(3, 1, 0)),
+    ((2, "c2", 1, "a1", 2), Answer::Admitted(4, 1, 0)),
+];
+
+/// The text of the cursor c1:1:4:b4:1:a1, and the steps from there in the history of `BRANCHES`.
+const CURSOR: &[u8] = b"YzE6MTo0OmI0OjE6YTE";
+
+const STEPS: &[(Step, u64)] = &[
+    (Step::Undo, 4),
+    (Step::Undo, 3),
+    (Step::Undo, 2),
+    (Step::NewFinal, 2),
+];
+
 const RUNS: &[Offers] = &[WAITS, DROPS, LATE, FULL];
 
 /// Greetings with a type, in order, and whether the type of the first clashes with it.
@@ -116,6 +139,19 @@ fn offers_are_answered(rt: HostRuntime) -> Result<(), Fail> {
             assert_eq!(rt; answer, *wanted);
         }
     }
+    Ok(())
+}
+
+#[test]
+fn a_client_goes_on_from_its_cursor(rt: HostRuntime) -> Result<(), Fail> {
+    let alloc = rt.alloc();
+    let mut relay = Relay::new(alloc, 1, 1, LIMITS, Payloads::LetGo)?;
+    for (fields, wanted) in BRANCHES {
+        let answer = offer(&rt, alloc, &mut relay, *fields)?;
+        assert_eq!(rt; answer, *wanted);
+    }
+    let steps = steps_from(&rt, alloc, &relay, CURSOR)?;
+    assert!(rt; steps.as_slice() == STEPS);
     Ok(())
 }
 
@@ -160,6 +196,31 @@ fn the_first_kind_is_kept(rt: HostRuntime) -> Result<(), Fail> {
         assert_eq!(rt; is_clash(relay.hello(&kind)), *clashes, "{text}");
     }
     Ok(())
+}
+
+/// The steps that a client is told next, with the numbers of their blocks.
+fn steps_from(
+    rt: &impl Abort,
+    alloc: Global,
+    relay: &Relay,
+    text: &[u8],
+) -> Result<Vec<(Step, u64)>, AllocError> {
+    let cursor = parse_cursor(alloc, text).ok();
+    let request = Request {
+        start: 0,
+        stop: None,
+        mode: Mode::Live,
+        cursor: Some(cursor.expect(rt, "a cursor")),
+    };
+    let mut items = Vec::new(alloc);
+    if let Ok(Look::Batch(batch)) = relay.look(&request, &Position::Start) {
+        relay.chunk(&batch, 0, 10, &mut items)?;
+    }
+    let mut steps = Vec::new(alloc);
+    for item in items {
+        steps.push((item.step, item.slip.num))?;
+    }
+    Ok(steps)
 }
 
 /// Offers a block. Where there was no memory nothing has changed, and it is offered again.

@@ -65,13 +65,13 @@ invariant_of-self-2 c =
     c.mark_admitted.ensures.items ∙ ap (λ l. l ++ replicate n mark.Admitted) (c.keep_root_kind.ensures.items ∙ ap (λ l. l ++ kind_mark root) c.reserve_admitted.ensures.marks) in
     let entries = entries_after opening w h c.admit.new.db.history t.room.waiting waited t.kind root c.keep_root_kind.new.kept s b.0 t.marks.items c.mark_admitted.new.marks.items n k.parts.history k.parts.waiting k.kind b.1 is len
     c.keep_root_kind.ensures.kept marks (c.in_ok-root_kind.ensures.added h c.len-from.ensures.len) c.in_ok-root_kind.ensures.first c.self.invariant.2 in
-    let fits : length c.into_lists-noted.result.0.items ≤ c.in_ok-follow.follow =
-    omega (arith, sym (length-reverse c.into_lists-noted.result.0.items), ap length c.into_lists-noted.ensures.noted, c.admit.ensures.limits.conflicts, ap length c.in_ok-drops.ensures.conflicts, c.in_ok-drops.ensures.spare) in
-    let all : c.append.new.self.items ≡ t.conflicts.items ++ c.into_lists-noted.result.0.items =
-    c.append.ensures.items ∙ ap (λ x. cond x (c.reserve_admitted.new.conflicts.items ++ c.into_lists-noted.result.0.items) c.reserve_admitted.new.conflicts.items) (c.append.ensures.succeeds (omega (arith, fits, c.in_ok-reserve_admitted.ensures.ok.1)))
-    ∙ ap (λ l. l ++ c.into_lists-noted.result.0.items) c.reserve_admitted.ensures.conflicts in
-    let dropped = c.into_lists-noted.ensures.noted ∙ c.admit.ensures.dropped ∙ ap (λ (l : List Slip). (intake_from l t.room.waiting s).dropped) c.make_room.ensures.history in
-    let conflicts = conflicts_after t.conflicts.items c.into_lists-noted.result.0.items c.append.new.self.items _ all dropped in
+    let fits : length c.finish-dropped.result.noted.items ≤ c.in_ok-follow.follow =
+    omega (arith, sym (length-reverse c.finish-dropped.result.noted.items), ap length c.finish-dropped.ensures.noted, c.admit.ensures.limits.conflicts, ap length c.in_ok-drops.ensures.conflicts, c.in_ok-drops.ensures.spare) in
+    let all : c.append.new.self.items ≡ t.conflicts.items ++ c.finish-dropped.result.noted.items =
+    c.append.ensures.items ∙ ap (λ x. cond x (c.reserve_admitted.new.conflicts.items ++ c.finish-dropped.result.noted.items) c.reserve_admitted.new.conflicts.items) (c.append.ensures.succeeds (omega (arith, fits, c.in_ok-reserve_admitted.ensures.ok.1)))
+    ∙ ap (λ l. l ++ c.finish-dropped.result.noted.items) c.reserve_admitted.ensures.conflicts in
+    let dropped = c.finish-dropped.ensures.noted ∙ c.admit.ensures.dropped ∙ ap (λ (l : List Slip). (intake_from l t.room.waiting s).dropped) c.make_room.ensures.history in
+    let conflicts = conflicts_after t.conflicts.items c.finish-dropped.result.noted.items c.append.new.self.items _ all dropped in
     let kind = c.keep_root_kind.ensures.kept ∙ c.in_ok-root_kind.ensures.kind c.make_room.new.db.history (c.len-from.ensures.len ∙ sym (ap length c.make_room.ensures.history)) in (
       kept_as _ _ _ _ _ _ _ _ _ _ _ entries (conflicts ∙ clashes_same w h t.room.waiting s k.parts.history k.parts.waiting) kind done,
       λ _. omega (arith, brings_most w s t.db t.room k.parts k.sound, ap length is, c.len-from.ensures.len, c.len.ensures.len, c.in_ok-follow.ensures.ok.0, c.mark_admitted.ensures.len, c.mark_admitted.ensures.capacity, c.keep_root_kind.ensures.len, c.keep_root_kind.ensures.capacity, c.in_ok-reserve_admitted.ensures.ok.0),
@@ -101,16 +101,16 @@ returns c =
     c.mark_admitted.ensures.items ∙ ap (λ l. l ++ replicate n mark.Admitted) (c.keep_root_kind.ensures.items ∙ ap (λ l. l ++ kind_mark root) c.reserve_admitted.ensures.marks) in
     let entries = entries_after opening w h c.admit.new.db.history t.room.waiting waited t.kind root c.keep_root_kind.new.kept s b.0 t.marks.items c.mark_admitted.new.marks.items n k.parts.history k.parts.waiting k.kind b.1 is len
     c.keep_root_kind.ensures.kept marks (c.in_ok-root_kind.ensures.added h c.len-from.ensures.len) c.in_ok-root_kind.ensures.first c.self.invariant.2 in
-    let fits : length c.into_lists-noted.result.0.items ≤ c.in_ok-follow.follow =
-    omega (arith, sym (length-reverse c.into_lists-noted.result.0.items), ap length c.into_lists-noted.ensures.noted, c.admit.ensures.limits.conflicts, ap length c.in_ok-drops.ensures.conflicts, c.in_ok-drops.ensures.spare) in
-    let all : c.append.new.self.items ≡ t.conflicts.items ++ c.into_lists-noted.result.0.items =
-    c.append.ensures.items ∙ ap (λ x. cond x (c.reserve_admitted.new.conflicts.items ++ c.into_lists-noted.result.0.items) c.reserve_admitted.new.conflicts.items) (c.append.ensures.succeeds (omega (arith, fits, c.in_ok-reserve_admitted.ensures.ok.1)))
-    ∙ ap (λ l. l ++ c.into_lists-noted.result.0.items) c.reserve_admitted.ensures.conflicts in
-    let dropped = c.into_lists-noted.ensures.noted ∙ c.admit.ensures.dropped ∙ ap (λ (l : List Slip). (intake_from l t.room.waiting s).dropped) c.make_room.ensures.history in
-    let conflicts = conflicts_after t.conflicts.items c.into_lists-noted.result.0.items c.append.new.self.items _ all dropped in
+    let fits : length c.finish-dropped.result.noted.items ≤ c.in_ok-follow.follow =
+    omega (arith, sym (length-reverse c.finish-dropped.result.noted.items), ap length c.finish-dropped.ensures.noted, c.admit.ensures.limits.conflicts, ap length c.in_ok-drops.ensures.conflicts, c.in_ok-drops.ensures.spare) in
+    let all : c.append.new.self.items ≡ t.conflicts.items ++ c.finish-dropped.result.noted.items =
+    c.append.ensures.items ∙ ap (λ x. cond x (c.reserve_admitted.new.conflicts.items ++ c.finish-dropped.result.noted.items) c.reserve_admitted.new.conflicts.items) (c.append.ensures.succeeds (omega (arith, fits, c.in_ok-reserve_admitted.ensures.ok.1)))
+    ∙ ap (λ l. l ++ c.finish-dropped.result.noted.items) c.reserve_admitted.ensures.conflicts in
+    let dropped = c.finish-dropped.ensures.noted ∙ c.admit.ensures.dropped ∙ ap (λ (l : List Slip). (intake_from l t.room.waiting s).dropped) c.make_room.ensures.history in
+    let conflicts = conflicts_after t.conflicts.items c.finish-dropped.result.noted.items c.append.new.self.items _ all dropped in
     let told : Told = record { entries = es; conflicts = cs; payloads = t.payloads } in
     let from : c.len-from.result ≡ length h = c.len-from.ensures.len in
-    let taken = c.into_lists-noted.ensures.told in
+    let taken = c.finish-dropped.ensures.told in
     let clashes = c.admit.ensures.dropped ∙ ap (λ (l : List Slip). (intake_from l t.room.waiting s).dropped) c.make_room.ensures.history in
-    let said = said_after w h t.room.waiting s c.len-from.result n c.admit.new.db.history c.into_lists-noted.result.1.items _ k.parts.history k.parts.waiting is from len taken clashes in
+    let said = said_after w h t.room.waiting s c.len-from.result n c.admit.new.db.history c.finish-dropped.result.told.items _ k.parts.history k.parts.waiting is from len taken clashes in
     changed s told _ _ Takes _ c.self.view_is takes said refl entries (conflicts ∙ clashes_same w h t.room.waiting s k.parts.history k.parts.waiting) refl
