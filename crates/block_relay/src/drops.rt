@@ -1,6 +1,6 @@
 //! What an admission drops.
 
-ghost use Rattle.std.specs.Prelude.{◌≡◌, ◌<◌, ◌≤◌, ◌+◌, ◌∷◌, [], IfOk, OnOk, reverse, vec_len};
+ghost use Rattle.std.specs.Prelude.{◌≡◌, ◌<◌, ◌≤◌, ◌+◌, ◌∷◌, [], IfOk, OnOk, reverse, vec_len, vec_capacity};
 ghost use Rattle.relay_model.specs.Offers.{conflict};
 
 use block_record::{Slip, SlipBuffer};
@@ -10,7 +10,7 @@ use std::marker::Model;
 
 /// Memory for the two conflicts of a block that is dropped, of which its own slip serves for one.
 #[derive(Drop)]
-pub struct Buffers {
+struct Buffers {
     noted_held: SlipBuffer,
     noted_offered: SlipBuffer,
     told_held: SlipBuffer,
@@ -38,14 +38,25 @@ pub struct Drops {
     left: usize,
 }
 
-/// What an admission dropped, and the memory that it did not use.
+/// What an admission dropped, with the memory that is left for later ones.
 #[derive(Drop)]
 pub struct Dropped {
     /// The conflicts to be noted, in the order of dropping.
     pub noted: Vec<Conflict>,
     /// The same, to be told.
     pub told: Vec<Conflict>,
-    pub buffers: Vec<Buffers>,
+    buffers: Vec<Buffers>,
+}
+
+impl Dropped {
+    /// Nothing, and no memory.
+    pub fn nothing(alloc: Global) -> Dropped {
+        Dropped {
+            noted: Vec::new(alloc),
+            told: Vec::new(alloc),
+            buffers: Vec::new(alloc),
+        }
+    }
 }
 
 impl Model for Drops {
@@ -63,15 +74,22 @@ impl Model for Drops {
 }
 
 impl Drops {
-    /// Nothing is dropped, and there is memory for so many, with what is left of earlier times.
-    pub fn new(alloc: Global, most: usize, mut buffers: Vec<Buffers>) -> Result<Drops, AllocError>
+    /// Nothing is dropped, and there is memory for so many, with what an earlier admission left.
+    pub fn new(alloc: Global, most: usize, earlier: Dropped) -> Result<Drops, AllocError>
         ensures conflicts { IfOk result (λ d. d.conflicts ≡ []) }
         ensures spare { IfOk result (λ d. d.spare ≡ most) }
     {
+        let Dropped {
+            noted,
+            told,
+            mut buffers,
+        } = earlier;
+        let noted = cleared(noted, most)?;
+        let told = cleared(told, most)?;
         add_buffers(alloc, most, &mut buffers)?;
         Ok(Drops {
-            noted: Vec::with_capacity(alloc, most)?,
-            told: Vec::with_capacity(alloc, most)?,
+            noted,
+            told,
             buffers,
             left: most,
         })
@@ -115,6 +133,17 @@ impl Drops {
             buffers,
         }
     }
+}
+
+/// The vector without its conflicts, with room for so many.
+fn cleared(mut conflicts: Vec<Conflict>, most: usize) -> Result<Vec<Conflict>, AllocError>
+    ensures items { IfOk result (λ v. v.items ≡ []) }
+    ensures len { IfOk result (λ v. vec_len v ≡ 0) }
+    ensures capacity { IfOk result (λ v. most ≤ vec_capacity v) }
+{
+    conflicts.clear();
+    conflicts.reserve(most)?;
+    Ok(conflicts)
 }
 
 /// Adds buffers until there are so many.

@@ -21,7 +21,7 @@ ghost use Rattle.block_relay.specs.Held.{HasBlock};
 ghost use Rattle.block_relay.specs.Judged.{verdict_of_judged};
 
 use crate::answers::{KindFault, OfferFault, Offered};
-use crate::drops::{Buffers, Drops};
+use crate::drops::{Dropped, Drops};
 use crate::judged::{Judged, judge_open};
 use crate::limits::Limits;
 use crate::marks::Mark;
@@ -55,8 +55,8 @@ pub struct Relay {
     conflicts: Vec<Conflict>,
     closed: bool,
     payloads: Payloads,
-    /// Memory for conflicts, which admissions use again.
-    spare: Vec<Buffers>,
+    /// Memory for the conflicts of dropped blocks, which each admission leaves to the next.
+    spare: Dropped,
     alloc: Global,
 }
 
@@ -112,7 +112,7 @@ impl Relay {
             conflicts: Vec::new(alloc),
             closed: false,
             payloads,
-            spare: Vec::new(alloc),
+            spare: Dropped::nothing(alloc),
             alloc,
         })
     }
@@ -395,7 +395,7 @@ impl Relay {
     {
         let from = self.db.len();
         let follow = make_room(&mut self.db, &self.room, &slip.id)?;
-        let spare = mem::replace(&mut self.spare, Vec::new(self.alloc));
+        let spare = mem::replace(&mut self.spare, Dropped::nothing(self.alloc));
         let mut drops = Drops::new(self.alloc, follow as usize, spare)?;
         reserve_admitted(&mut self.marks, &mut self.conflicts, follow)?;
         let root_kind = kind_of_root(self.alloc, from, &self.kind)?;
@@ -405,11 +405,12 @@ impl Relay {
         mark_admitted(&mut self.marks, count);
         let mut dropped = drops.finish();
         let _ = self.conflicts.append(&mut dropped.noted);
-        self.spare = dropped.buffers;
+        let told = take_told(self.alloc, &mut dropped.told);
+        self.spare = dropped;
         Ok(Offered::Admitted {
             from,
             count,
-            dropped: dropped.told,
+            dropped: told,
         })
     }
 }
@@ -513,6 +514,16 @@ fn keep_root_kind(kept: &mut Option<Kind>, marks: &mut Vec<Mark>, root: Option<K
         *kept = Some(kind);
         marks.push_reserved(Mark::Kind);
     }
+}
+
+/// Takes the conflicts out. Where there are none their memory stays.
+fn take_told(alloc: Global, told: &mut Vec<Conflict>) -> Vec<Conflict>
+    ensures { result.items ≡ told.old.items }
+{
+    if told.is_empty() {
+        return Vec::new(alloc);
+    }
+    mem::replace(told, Vec::new(alloc))
 }
 
 /// Marks so many blocks as admitted.

@@ -40,9 +40,42 @@ fn count_in(room: &WaitRoom, id: &Id) -> Result<u64, AllocError>
     Ok(count)
 }
 
-/// Makes room in the history for a block and the waiting blocks that descend from it, and gives how
-/// many blocks these descendants are.
+/// No fewer blocks than descend from the id, found without counting them: none, or all that wait.
+fn most_in(room: &WaitRoom, id: &Id) -> u64
+    ensures most { descendants room.now.waiting id.now ≤ result }
+    ensures small { result < 2 ^ 63 }
+{
+    let waiting = room.blocks();
+    if room.has_child(id) { waiting } else { 0 }
+}
+
+/// Makes room in the history for a block and the waiting blocks that descend from it, and says for
+/// how many of these there is room.
 pub fn make_room(db: &mut ForkDb, room: &WaitRoom, id: &Id) -> Result<u64, OfferFault>
+    ensures history { db.new.history ≡ db.old.history }
+    ensures held { db.new.held ≡ db.old.held }
+    ensures limit { db.new.limit ≡ db.old.limit }
+    ensures ok { IfOk result (λ n. (descendants room.now.waiting id.now ≤ n)
+        × (1 + n ≤ db.new.room)) }
+    ensures small { IfOk result (λ n. n < 2 ^ 63) }
+    ensures faults { IfErr result IsRoomFault }
+    // `HistoryFull` comes exactly where so many would pass the limit, but for want of memory.
+    ensures full { (len need : ℕ) → result ≡ Err (OfferFault.HistoryFull len need)
+        → (len ≡ length db.old.history) × (need ≡ 1 + descendants room.now.waiting id.now)
+        × (db.old.limit < len + need) }
+    ensures limited { db.old.limit < length db.old.history
+        + (1 + descendants room.now.waiting id.now) → IsErr result }
+{
+    let most = most_in(room, id);
+    match db.reserve(1 + most) {
+        Ok(()) => Ok(most),
+        Err(ForkFault::Full { .. }) => make_room_for(db, room, id),
+        Err(ForkFault::Mem) => Err(OfferFault::Mem),
+    }
+}
+
+/// The same by their count.
+fn make_room_for(db: &mut ForkDb, room: &WaitRoom, id: &Id) -> Result<u64, OfferFault>
     ensures history { db.new.history ≡ db.old.history }
     ensures held { db.new.held ≡ db.old.held }
     ensures limit { db.new.limit ≡ db.old.limit }
@@ -50,7 +83,6 @@ pub fn make_room(db: &mut ForkDb, room: &WaitRoom, id: &Id) -> Result<u64, Offer
         × (1 + n ≤ db.new.room)) }
     ensures small { IfOk result (λ n. n < 2 ^ 63) }
     ensures faults { IfErr result IsRoomFault }
-    // `HistoryFull` comes exactly where so many would pass the limit, but for want of memory.
     ensures full { (len need : ℕ) → result ≡ Err (OfferFault.HistoryFull len need)
         → (len ≡ length db.old.history) × (need ≡ 1 + descendants room.now.waiting id.now)
         × (db.old.limit < len + need) }

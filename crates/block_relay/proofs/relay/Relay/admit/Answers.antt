@@ -110,7 +110,7 @@ returns c =
     let conflicts = conflicts_after t.conflicts.items c.finish-dropped.result.noted.items c.append.new.self.items _ all dropped in
     let told : Told = record { entries = es; conflicts = cs; payloads = t.payloads } in
     let from : c.len-from.result ≡ length h = c.len-from.ensures.len in
-    let taken = c.finish-dropped.ensures.told in
+    let taken = ap reverse c.take_told-told.ensures ∙ c.finish-dropped.ensures.told in
     let clashes = c.admit.ensures.dropped ∙ ap (λ (l : List Slip). (intake_from l t.room.waiting s).dropped) c.make_room.ensures.history in
-    let said = said_after w h t.room.waiting s c.len-from.result n c.admit.new.db.history c.finish-dropped.result.told.items _ k.parts.history k.parts.waiting is from len taken clashes in
+    let said = said_after w h t.room.waiting s c.len-from.result n c.admit.new.db.history c.take_told-told.result.items _ k.parts.history k.parts.waiting is from len taken clashes in
     changed s told _ _ Takes _ c.self.view_is takes said refl entries (conflicts ∙ clashes_same w h t.room.waiting s k.parts.history k.parts.waiting) refl
