@@ -1,5 +1,5 @@
 -- That a chunk has the blocks that are held.
-use Rattle.std.proofs.Common.{arith, ◌≡◌, ◌∙◌, ap, subst, ℕ, zero, suc, true, List, [], ◌∷◌, Option, Some, None, IsSome, refl}
+use Rattle.std.proofs.Common.{arith, ◌≡◌, ◌∙◌, subst, ℕ, zero, suc, List, [], ◌∷◌, Option, Some, None, IsSome, refl}
 use Rattle.std.specs.List.{AllByRecursion, slice_get}
 use Rattle.std.specs.Option.{option_map}
 use Rattle.std.proofs.lemmas.Option.{same_Some}
