@@ -22,6 +22,14 @@ pub fn slip_of(alloc: Global, block: &Block) -> Result<Slip, AllocError>
     })
 }
 
+/// A copy of the slip.
+pub fn copy_slip(slip: &Slip) -> Result<Slip, AllocError>
+    ensures { IfOk result (λ s. s ≡ slip.now) }
+{
+    let copied = slip.clone()?;
+    Ok(copied)
+}
+
 /// The block's slip, made of the block's own ids. It takes no memory.
 pub fn into_slip(block: Block) -> Slip
     ensures { result ≡ slip block }

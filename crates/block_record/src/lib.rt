@@ -15,7 +15,7 @@ mod types;
 pub use blocks::{Block, BlockRef, Kind, PAYLOAD_BYTES_MAX, Slip, Version};
 pub use buffers::SlipBuffer;
 pub use bytes::Bytes;
-pub use digests::{into_slip, slip_of};
+pub use digests::{copy_slip, into_slip, slip_of};
 pub use faults::RecordFault;
 pub use ids::{Id, is_id};
 pub use numbers::read_number;

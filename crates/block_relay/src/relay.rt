@@ -27,7 +27,7 @@ use crate::limits::Limits;
 use crate::marks::Mark;
 use crate::payloads::Payloads;
 use crate::taking::{admit, make_room};
-use block_record::{Block, Kind, Slip, TypeName, Version, slip_of};
+use block_record::{Block, Kind, Slip, TypeName, Version, copy_slip, slip_of};
 use fork_db::{Batch, ForkDb, StepItem};
 use relay_look::{Look, LookFault, Position, look};
 use relay_model::{Conflict, ConflictKind};
@@ -424,13 +424,6 @@ fn kind_clash(held: &Kind, offered: &Kind) -> KindFault
         Ok((held, offered)) => KindFault::KindClash { held, offered },
         Err(_) => KindFault::Mem,
     }
-}
-
-fn copy_slip(slip: &Slip) -> Result<Slip, AllocError>
-    ensures { IfOk result (λ s. s ≡ slip.now) }
-{
-    let copied = slip.clone()?;
-    Ok(copied)
 }
 
 fn copy_kind(kind: &Kind) -> Result<Kind, AllocError>

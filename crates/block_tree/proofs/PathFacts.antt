@@ -1,12 +1,13 @@
 -- Which blocks are on a path.
 use Rattle.std.proofs.Common.{arith, ◌++◌, get_or, ◌≤◌, reverse, map, find, nat_eq, ◌≡◌, ◌<◌, ◌+◌, ◌-◌, ◌==◌, ℕ, Bool, true, false, cond, ◌||◌, suc, zero, List, [], ◌∷◌, length, Option, Some, None, refl, sym, ◌∙◌, ap, subst, eq-eqb}
-use Rattle.std.proofs.lemmas.List.{length-reverse, length-map, reverse-append, map-append, get_or-reverse}
+use Rattle.std.proofs.lemmas.List.{length-reverse, length-map, get_or-reverse}
 use Rattle.std.specs.Option.{option_map}
 use Rattle.std.proofs.lemmas.Option.{same_Some, slice_get_within, slice_get-get_or, slice_get-map, slice_get_past, get_or_from_slice_get}
 use Rattle.std.specs.List.{slice_get, list_any}
 use Rattle.link_rows.specs.Tree.{meeting as tree_meeting}
 use Rattle.link_rows.proofs.ListFacts.{any_at}
 use Rattle.block_tree.proofs.PlaceFacts.{bridge}
+use Rattle.block_record.proofs.ListFacts.{map_reverse}
 use Rattle.block_record.specs.Ids.{same_id, same_id_refl, same_id-true}
 use Rattle.block_record.specs.declared.blocks.Slip.{Slip}
 use Rattle.chain_model.specs.Ancestry.{has_id, ancestry, IsHistory}
@@ -170,13 +171,8 @@ in_path tree at depth r e =
     let turned : get_or A (length A - 1 - depth) 0 ≡ r = sym (get_or-reverse A depth 0 lt) ∙ value in
     ancestors_within tree at (length A - 1 - depth) r (slice_get-get_or A (length A - 1 - depth) 0 (omega arith) ∙ ap Some turned)
 
-turned : {A B : Type 0} (f : A → B) (xs : List A) → map f (reverse xs) ≡ reverse (map f xs)
-turned f [] = refl
-turned f (x ∷ xs) =
-    ap (map f) (reverse-append (x ∷ []) xs) ∙ map-append f (reverse xs) (x ∷ []) ∙ ap (λ l. l ++ f x ∷ []) (turned f xs) ∙ sym (reverse-append (f x ∷ []) (map f xs))
-
-map_reverse : (newest : List Slip) (line : List Slip) (places : List ℕ) → map Some line ≡ map (slip_at newest) places → map Some (reverse line) ≡ map (slip_at newest) (reverse places)
-map_reverse newest line places e = turned Some line ∙ ap reverse e ∙ sym (turned (slip_at newest) places)
+path_reverse : (newest : List Slip) (line : List Slip) (places : List ℕ) → map Some line ≡ map (slip_at newest) places → map Some (reverse line) ≡ map (slip_at newest) (reverse places)
+path_reverse newest line places e = map_reverse Some line ∙ ap reverse e ∙ sym (map_reverse (slip_at newest) places)
 
 -- the block at an index of a path
 pub path_slip : (newest : List Slip) (tree : List (Option ℕ)) (at depth r : ℕ) (y : Slip) → tree ≡ parent_places newest → IsHistory newest → slip_at newest at ≡ Some y
@@ -186,7 +182,7 @@ path_slip newest tree at depth r y e h ey f =
     let f2 : slice_get (reverse (ancestors (parent_places newest) at)) depth ≡ Some r = subst (λ t. slice_get (path t at) depth ≡ Some r) e f in
     let z = slip_there newest r (rw (← length_places newest) (in_path (parent_places newest) at depth r f2)) in
     let both : option_map Some (slice_get L depth) ≡ option_map (slip_at newest) (slice_get (reverse (ancestors (parent_places newest) at)) depth) =
-    sym (slice_get-map Some L depth) ∙ ap (λ l. slice_get l depth) (map_reverse newest (ancestry newest y.id) (ancestors (parent_places newest) at) (bridge newest at y h ey)) ∙ slice_get-map (slip_at newest) (reverse (ancestors (parent_places newest) at)) depth in
+    sym (slice_get-map Some L depth) ∙ ap (λ l. slice_get l depth) (path_reverse newest (ancestry newest y.id) (ancestors (parent_places newest) at) (bridge newest at y h ey)) ∙ slice_get-map (slip_at newest) (reverse (ancestors (parent_places newest) at)) depth in
     z.1 ∙ sym (one_some (slice_get L depth) z.0 (both ∙ ap (option_map (slip_at newest)) f2 ∙ ap Some z.1))
 
 pub path_none : (newest : List Slip) (tree : List (Option ℕ)) (at depth n : ℕ) (y : Slip) → tree ≡ parent_places newest → IsHistory newest → slip_at newest at ≡ Some y

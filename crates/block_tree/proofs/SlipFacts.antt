@@ -6,6 +6,7 @@ use Rattle.std.proofs.lemmas.List.{length-reverse, length-map, reverse-append, r
 use Rattle.std.proofs.lemmas.List.Folds.{list_any-append}
 use Rattle.std.proofs.lemmas.Iterator.Adapters.{position_from-zero}
 use Rattle.indexmap.specs.IndexSet.{insert_key}
+use Rattle.block_record.proofs.ListFacts.{map_reverse}
 use Rattle.block_record.specs.Ids.{same_id, same_id_equiv, same_id-true}
 use Rattle.block_record.specs.declared.blocks.Slip.{Slip}
 use Rattle.chain_model.specs.Ancestry.{has_id}
@@ -66,14 +67,9 @@ all_by_id : (xs : List SlipById) → map by_id (map (λ (s : SlipById). s.slip) 
 all_by_id [] = refl
 all_by_id (x ∷ xs) = ap (λ l. x ∷ l) (all_by_id xs)
 
-map_turned : {A B : Type 0} (f : A → B) (xs : List A) → map f (reverse xs) ≡ reverse (map f xs)
-map_turned f [] = refl
-map_turned f (x ∷ xs) =
-    ap (map f) (reverse-append (x ∷ []) xs) ∙ map-append f (reverse xs) (x ∷ []) ∙ ap (λ l. l ++ f x ∷ []) (map_turned f xs) ∙ sym (reverse-append (f x ∷ []) (map f xs))
-
 keys_back : (keys : List SlipById) → reverse (map by_id (history_of keys)) ≡ keys
 keys_back keys =
-    ap reverse (map_turned by_id (map (λ (s : SlipById). s.slip) keys)) ∙ reverse-reverse (map by_id (map (λ (s : SlipById). s.slip) keys)) ∙ all_by_id keys
+    ap reverse (map_reverse by_id (map (λ (s : SlipById). s.slip) keys)) ∙ reverse-reverse (map by_id (map (λ (s : SlipById). s.slip) keys)) ∙ all_by_id keys
 
 -- where the set finds an id is where the history has it
 pub found_place : (keys : List SlipById) (id : List ℕ) → HasIdsOnce (history_of keys) → position (λ (x : SlipById). same_id id x.slip.id) keys ≡ place_of (history_of keys) id

@@ -1,7 +1,8 @@
 -- From a place that fits, the steps to the target are a walk.
 use Rattle.std.proofs.Common.{◌≡◌, ◌⊎◌, inl, inr, ℕ, Bool, true, false, not, cond, List, [], ◌∷◌, ◌++◌, map, reverse, Option, Some, None, refl, sym, ◌∙◌, ap, subst, append_assoc}
 use Rattle.std.specs.List.{AllByRecursion, filter}
-use Rattle.std.proofs.lemmas.List.{append-nil, reverse-append, reverse-reverse, append-nil}
+use Rattle.std.proofs.lemmas.List.{append-nil, reverse-reverse}
+use Rattle.block_record.proofs.ListFacts.{all_reverse}
 use Rattle.block_record.specs.declared.blocks.Slip.{Slip}
 use Rattle.block_record.specs.declared.blocks.BlockRef.{BlockRef}
 use Rattle.chain_model.specs.declared.places.Place.{Place}
@@ -19,14 +20,6 @@ use Rattle.chain_laws.proofs.Walks.{is_final, Fails, Begins, Walk}
 use Rattle.chain_laws.proofs.Roots.{line_has_final}
 use Rattle.chain_model.specs.Places.{PlaceFits, IsAhead, IsHeld}
 use Rattle.chain_laws.specs.Standing.{IsUnder}
-
-all_push : (P : Slip → Type 0) (xs : List Slip) (y : Slip) → AllByRecursion P xs → P y → AllByRecursion P (xs ++ y ∷ [])
-all_push P [] y all h = (h, tt)
-all_push P (x ∷ xs) y all h = (all.0, all_push P xs y all.1 h)
-
-all_reverse : (P : Slip → Type 0) (xs : List Slip) → AllByRecursion P xs → AllByRecursion P (reverse xs)
-all_reverse P [] all = tt
-all_reverse P (x ∷ xs) all = subst (AllByRecursion P) (sym (reverse-append (x ∷ []) xs)) (all_push P (reverse xs) x (all_reverse P xs all.1) all.0)
 
 all_filter : (p : Slip → Bool) (xs : List Slip) → Passes p (filter p xs)
 all_filter p [] = tt

@@ -5,6 +5,7 @@ use Rattle.std.specs.Option.{option_map}
 use Rattle.std.specs.Arc.{arc_value}
 use Rattle.std.proofs.lemmas.List.{append-nil}
 use Rattle.std.proofs.lemmas.Option.{same_Some}
+use Rattle.block_record.proofs.ListFacts.{all_push}
 use Rattle.block_record.specs.declared.blocks.Slip.{Slip}
 use Rattle.block_record.specs.declared.blocks.Block.{Block}
 use Rattle.chain_model.specs.Ancestry.{IsHistory}
@@ -12,10 +13,6 @@ use Rattle.block_tree.specs.Places.{place_of, slip_at}
 use Rattle.block_tree.proofs.PathFacts.{place_at}
 use Rattle.fork_db.specs.declared.chunks.StepItem.{StepItem}
 use Rattle.fork_db.specs.Batches.{HoldsWhatIs}
-
-all_pushed : {X : Type 0} (P : X → Type 0) (xs : List X) (x : X) → P x → AllByRecursion P xs → AllByRecursion P (xs ++ x ∷ [])
-all_pushed P [] x p all = (p, tt)
-all_pushed P (y ∷ xs) x p all = (all.0, all_pushed P xs x p all.1)
 
 drop_pushed : {X : Type 0} (n : ℕ) (xs : List X) (x : X) → n ≤ length xs → drop n (xs ++ x ∷ []) ≡ drop n xs ++ x ∷ []
 drop_pushed zero [] x le = refl
@@ -26,7 +23,7 @@ drop_pushed (suc n) (y ∷ xs) x le = drop_pushed n xs x (omega arith)
 pub holds_more : (newest : List Slip) (held : List (Option Block)) (n : ℕ) (items after : List StepItem) (x : StepItem) → n ≤ length items → after ≡ items ++ x ∷ [] → HoldsWhatIs newest held x
     → AllByRecursion (HoldsWhatIs newest held) (drop n items) → AllByRecursion (HoldsWhatIs newest held) (drop n after)
 holds_more newest held n items after x le e own all =
-    subst (AllByRecursion (HoldsWhatIs newest held)) (sym (ap (drop n) e ∙ drop_pushed n items x le)) (all_pushed (HoldsWhatIs newest held) (drop n items) x own all)
+    subst (AllByRecursion (HoldsWhatIs newest held)) (sym (ap (drop n) e ∙ drop_pushed n items x le)) (all_push (HoldsWhatIs newest held) (drop n items) x all own)
 
 pub none_yet : {X : Type 0} (P : X → Type 0) (xs : List X) → AllByRecursion P (drop (length xs) xs)
 none_yet P [] = tt

@@ -14,7 +14,7 @@ ghost use Rattle.fork_db.specs.Batches.{HoldsWhatIs, IsGiven, WasGiven, added_ki
 
 use crate::batches::{Batch, step_count};
 use crate::held::HeldBlocks;
-use block_record::{Block, BlockRef, Slip};
+use block_record::{Block, BlockRef, Slip, copy_slip};
 use block_tree::BlockTree;
 use chain_model::{Place, Step};
 use link_rows::Steps;
@@ -265,14 +265,6 @@ fn copy_of(block: &Option<BlockRef>) -> Result<Option<BlockRef>, AllocError>
 {
     let block = block.clone()?;
     Ok(block)
-}
-
-/// A copy of a slip.
-fn copy_slip(slip: &Slip) -> Result<Slip, AllocError>
-    ensures { IfOk result (λ s. s ≡ slip.now) }
-{
-    let slip = slip.clone()?;
-    Ok(slip)
 }
 
 /// The step at an index that is below the number of the steps, with its block and its place.

@@ -4,7 +4,7 @@ use Rattle.std.specs.List.{AllByRecursion}
 use Rattle.std.specs.Option.{is_some}
 use Rattle.std.proofs.lemmas.Bool.{ltb-true}
 use Rattle.std.proofs.lemmas.Bool.Decides.{Decides-eqb}
-use Rattle.std.proofs.lemmas.List.{reverse-append}
+use Rattle.block_record.proofs.ListFacts.{all_reverse}
 use Rattle.block_record.specs.declared.blocks.Block.{Block}
 use Rattle.block_record.specs.declared.blocks.BlockRef.{BlockRef}
 use Rattle.block_record.specs.Records.{record_text}
@@ -26,16 +26,6 @@ use Rattle.shelf_check.proofs.ListFacts.{turned}
 -- two blocks of one record are one
 same_block : (m : List ℕ) (a b : Block) → IsRecordOf m a → IsRecordOf m b → a ≡ b
 same_block m a b ra rb = rb.readable.only a ra.readable.recordable (sym rb.text ∙ ra.text)
-
-all_append : (xs ys : List Block) → AllByRecursion IsReadable xs → AllByRecursion IsReadable ys → AllByRecursion IsReadable (xs ++ ys)
-all_append [] ys ax ay = ay
-all_append (x ∷ xs) ys ax ay = (ax.0, all_append xs ys ax.1 ay)
-
-all_reverse : (xs : List Block) → AllByRecursion IsReadable xs → AllByRecursion IsReadable (reverse xs)
-all_reverse [] ax = tt
-all_reverse (x ∷ xs) ax =
-    let P : List Block → Type 0 = λ l. AllByRecursion IsReadable l in
-    subst P (sym (reverse-append (x ∷ []) xs)) (all_append (reverse xs) (x ∷ []) (all_reverse xs ax.1) (ax.0, tt))
 
 -- blocks whose records begin with those of others begin with the others
 pub record Begins (rs ds : List Block) (m : List ℕ) : Type 0 where
@@ -87,7 +77,7 @@ module _ (base : ℕ) (text : List ℕ) (kept : Option (List ℕ)) (before : Opt
       begun =
           begins (reverse bad.blocks) (reverse blocks) bad.message bad.more
           (sym good.holds.records.texts ∙ bad.messages_are ∙ ap (λ (l : List (List ℕ)). l ++ bad.message ∷ bad.more) bad.records.texts)
-          (all_reverse bad.blocks bad.records.readable) (all_reverse blocks good.holds.records.readable)
+          (all_reverse IsReadable bad.blocks bad.records.readable) (all_reverse IsReadable blocks good.holds.records.readable)
 
       next : IsTrue (is_next base (tip_after before bad.blocks) begun.block)
       next = next_of base before (reverse begun.rest) begun.block bad.blocks (subst (AreNext base before) (turned blocks bad.blocks begun.block begun.rest begun.whole) good.next)

@@ -1,6 +1,7 @@
 -- Lists that are read one after another, and told with the last one first.
 use Rattle.std.proofs.Common.{◌≡◌, ◌<◌, ◌+◌, ℕ, suc, List, [], ◌∷◌, ◌++◌, length, map, reverse, take, drop, get_or, refl, sym, ap, ◌∙◌, append_assoc}
 use Rattle.std.proofs.lemmas.List.{take_more, take-append-drop, reverse-append, reverse-reverse, map-append}
+use Rattle.block_record.proofs.ListFacts.{map_reverse}
 use Rattle.std.proofs.Math.Seq.{drop-cons}
 
 -- one more
@@ -26,11 +27,6 @@ rest_same x y xs ys e = cc e
 
 -- ---- turned over
 
-map-reverse : {A B : Type 0} (f : A → B) (xs : List A) → map f (reverse xs) ≡ reverse (map f xs)
-map-reverse f [] = refl
-map-reverse {A} {B} f (x ∷ xs) =
-    map_reverse_more f x xs ∙ ap (λ (zs : List B). zs ++ f x ∷ []) (map-reverse f xs) ∙ sym (reverse-append (f x ∷ []) (map f xs))
-
 -- what begins with a list, where the last one stands first, ends with it
 pub turned : {A : Type 0} (xs done : List A) (x : A) (rest : List A) → reverse xs ≡ reverse done ++ x ∷ rest → xs ≡ reverse rest ++ x ∷ done
 turned {A} xs done x rest e =
@@ -41,7 +37,7 @@ turned {A} xs done x rest e =
 
 -- lists whose values are the same in one order have the same in the other
 pub map_turned : {A B : Type 0} (f : A → B) (xs ys : List A) → map f (reverse xs) ≡ map f (reverse ys) → map f xs ≡ map f ys
-map_turned f xs ys e = sym (reverse-reverse (map f xs)) ∙ ap reverse (sym (map-reverse f xs) ∙ e ∙ map-reverse f ys) ∙ reverse-reverse (map f ys)
+map_turned f xs ys e = sym (reverse-reverse (map f xs)) ∙ ap reverse (sym (map_reverse f xs) ∙ e ∙ map_reverse f ys) ∙ reverse-reverse (map f ys)
 
 -- an element of this value, and before it those of the values of a list
 pub record Split {A B : Type 0} (f : A → B) (xs : List A) (y : B) (ys : List A) : Type 0 where
@@ -67,4 +63,4 @@ split_after {A} {B} f (x ∷ xs) (z ∷ front) y ys e =
 pub split_at : {A B : Type 0} (f : A → B) (xs ys : List A) (y : B) (more : List B) → map f (reverse xs) ≡ map f (reverse ys) ++ y ∷ more → Split f xs y ys
 split_at {A} {B} f xs ys y more e =
     split_after f xs (reverse more) y ys
-    (turned (map f xs) (map f ys) y more (sym (map-reverse f xs) ∙ e ∙ ap (λ (l : List B). l ++ y ∷ more) (map-reverse f ys)))
+    (turned (map f xs) (map f ys) y more (sym (map_reverse f xs) ∙ e ∙ ap (λ (l : List B). l ++ y ∷ more) (map_reverse f ys)))

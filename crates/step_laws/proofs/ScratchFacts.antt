@@ -1,7 +1,7 @@
 -- The steps of a run from nothing lead a client to the head of the order from scratch.
 use Rattle.std.proofs.Common.{◌≡◌, inl, ℕ, List, [], ◌∷◌, ◌++◌, reverse, Option, Some, None, refl, sym, ◌∙◌, ap, subst}
 use Rattle.std.specs.List.{AllByRecursion}
-use Rattle.std.proofs.lemmas.List.{reverse-append}
+use Rattle.block_record.proofs.ListFacts.{all_reverse}
 use Rattle.block_record.specs.declared.blocks.Slip.{Slip}
 use Rattle.chain_model.specs.Ancestry.{IsHistory}
 use Rattle.chain_model.specs.Finality.{ancestry_of, final_tip}
@@ -39,15 +39,6 @@ same_head newest order history m tip =
     path : (o : Option Slip) → ((s : Slip) → o ≡ Some s → IsFound newest s) → ancestry_of newest o ≡ ancestry_of order o
     path None found = refl
     path (Some s) found = tip.paths s (found s refl)
-
-all_push : (P : Slip → Type 0) (xs : List Slip) (y : Slip) → AllByRecursion P xs → P y → AllByRecursion P (xs ++ y ∷ [])
-all_push P [] y all h = (h, tt)
-all_push P (x ∷ xs) y all h = (all.0, all_push P xs y all.1 h)
-
--- what holds of each holds of each in the other order
-all_reverse : (P : Slip → Type 0) (xs : List Slip) → AllByRecursion P xs → AllByRecursion P (reverse xs)
-all_reverse P [] all = tt
-all_reverse P (x ∷ xs) all = subst (AllByRecursion P) (sym (reverse-append (x ∷ []) xs)) (all_push P (reverse xs) x (all_reverse P xs all.1) all.0)
 
 -- a world in which nothing came yet is sound
 pub new_sound : (first : ℕ) → IsSound (new_world first)

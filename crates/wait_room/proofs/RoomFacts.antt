@@ -22,7 +22,8 @@ use Rattle.relay_model.specs.Worlds.{descendants, descends, room_bytes, without}
 use Rattle.relay_model.proofs.Sound.{swap_ids}
 use Rattle.wait_room.specs.declared.waiters.Waiter.{Waiter}
 use Rattle.wait_room.specs.Rooms.{slips_of, kept_of, kept_at, kept_beside, waiting_of, held_of, AreKept, HasOwnSlip, IsOwnSlip, Room, fits_in, room_where}
-use Rattle.wait_room.proofs.TurnedFacts.{all_of, all_turned, filter_all, filter_turned, map_filter, map_turned, turned_cons, turned_push}
+use Rattle.block_record.proofs.ListFacts.{all_reverse, map_reverse}
+use Rattle.wait_room.proofs.TurnedFacts.{all_of, filter_all, filter_turned, map_filter, turned_cons, turned_push}
 
 abbrev pub room_of : List Slip → List (Option Block) → ℕ → ℕ → Room
 room_of w h b n = record { waiting = w; held = h; most_blocks = b; most_bytes = n }
@@ -140,8 +141,8 @@ beside_each q (x ∷ xs) =
 -- what is kept of the blocks that are left, by a filter of the slips
 pub held_filtered : (q : Slip → Bool) (xs : List Waiter) → held_of (filter (λ w. q w.slip) xs) ≡ kept_beside q (waiting_of xs) (held_of xs)
 held_filtered q xs =
-    sym (map_turned kept_of (filter (λ w. q w.slip) xs)) ∙ ap (map kept_of) (sym (filter_turned (λ (w : Waiter). q w.slip) xs)) ∙ beside_each q (reverse xs)
-    ∙ ap (λ l. kept_beside q l (map kept_of (reverse xs))) (map_turned (λ (w : Waiter). w.slip) xs) ∙ ap (kept_beside q (waiting_of xs)) (map_turned kept_of xs)
+    sym (map_reverse kept_of (filter (λ w. q w.slip) xs)) ∙ ap (map kept_of) (sym (filter_turned (λ (w : Waiter). q w.slip) xs)) ∙ beside_each q (reverse xs)
+    ∙ ap (λ l. kept_beside q l (map kept_of (reverse xs))) (map_reverse (λ (w : Waiter). w.slip) xs) ∙ ap (kept_beside q (waiting_of xs)) (map_reverse kept_of xs)
 
 kept_each : (xs : List Waiter) (id : List ℕ) → kept_at (slips_of xs) (map kept_of xs) id ≡ option_map kept_of (find (λ (w : Waiter). same_id w.slip.id id) xs)
 kept_each [] id = refl
@@ -152,7 +153,7 @@ kept_each (x ∷ xs) id =
 -- what is kept beside an id is that of the waiting block with the id
 pub kept_found : (xs : List Waiter) (id : List ℕ) → IsDistinct (slips_of xs) → kept_at (waiting_of xs) (held_of xs) id ≡ option_map kept_of (find (λ (w : Waiter). same_id w.slip.id id) xs)
 kept_found xs id d =
-    ap (λ l. kept_at l (held_of xs) id) (sym (map_turned (λ (w : Waiter). w.slip) xs)) ∙ ap (λ l. kept_at (map (λ (w : Waiter). w.slip) (reverse xs)) l id) (sym (map_turned kept_of xs)) ∙ kept_each (reverse xs) id
+    ap (λ l. kept_at l (held_of xs) id) (sym (map_reverse (λ (w : Waiter). w.slip) xs)) ∙ ap (λ l. kept_at (map (λ (w : Waiter). w.slip) (reverse xs)) l id) (sym (map_reverse kept_of xs)) ∙ kept_each (reverse xs) id
     ∙ ap (option_map kept_of) (find_turned (λ (w : Waiter). w.slip) xs id d)
 
 -- where each block is kept, each of those that are left is
@@ -204,8 +205,8 @@ own_each (x ∷ xs) own = (own_kept arc_value x.slip x.block own.0, own_each xs 
 -- each block has its slip
 pub own_slips : (xs : List Waiter) → All HasOwnSlip xs → AllZip IsOwnSlip (waiting_of xs) (held_of xs)
 own_slips xs own =
-    subst (λ l. AllZip IsOwnSlip l (held_of xs)) (map_turned (λ (w : Waiter). w.slip) xs)
-    (subst (λ l. AllZip IsOwnSlip (map (λ (w : Waiter). w.slip) (reverse xs)) l) (map_turned kept_of xs) (own_each (reverse xs) (all_turned HasOwnSlip xs (recursion_from_All HasOwnSlip xs own))))
+    subst (λ l. AllZip IsOwnSlip l (held_of xs)) (map_reverse (λ (w : Waiter). w.slip) xs)
+    (subst (λ l. AllZip IsOwnSlip (map (λ (w : Waiter). w.slip) (reverse xs)) l) (map_reverse kept_of xs) (own_each (reverse xs) (all_reverse HasOwnSlip xs (recursion_from_All HasOwnSlip xs own))))
 
 -- what the key finds is the block of the id
 pub found_slip : (xs : List Waiter) (id : List ℕ) (o : Option Waiter) → o ≡ find (λ (w : Waiter). same_id id w.slip.id) xs → IsDistinct (slips_of xs)

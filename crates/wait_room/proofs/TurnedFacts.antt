@@ -16,11 +16,6 @@ turned_more f xs i x lt e =
     ap (λ l. reverse (map f l)) (take_more xs i x lt) ∙ ap reverse (map-append f (take i xs) (get_or xs i x ∷ []))
     ∙ turned_push (map f (take i xs)) (f (get_or xs i x)) ∙ ap (λ y. f y ∷ reverse (map f (take i xs))) (sym e)
 
-pub map_turned : {A B : Type 0} (f : A → B) (xs : List A) → map f (reverse xs) ≡ reverse (map f xs)
-map_turned f [] = refl
-map_turned f (x ∷ xs) =
-    ap (map f) (turned_cons x xs) ∙ map-append f (reverse xs) (x ∷ []) ∙ ap (λ l. l ++ f x ∷ []) (map_turned f xs) ∙ sym (turned_cons (f x) (map f xs))
-
 pub filter_turned : {X : Type 0} (p : X → Bool) (xs : List X) → filter p (reverse xs) ≡ reverse (filter p xs)
 filter_turned p [] = refl
 filter_turned p (x ∷ xs) =
@@ -53,12 +48,3 @@ all_from P Q f (x ∷ xs) all = (f x all.0, all_from P Q f xs all.1)
 pub all_unmapped : {X Y : Type 0} (P : Y → Type 0) (f : X → Y) (xs : List X) → AllByRecursion P (map f xs) → AllByRecursion (λ x. P (f x)) xs
 all_unmapped P f [] all = tt
 all_unmapped P f (x ∷ xs) all = (all.0, all_unmapped P f xs all.1)
-
-all_push : {X : Type 0} (P : X → Type 0) (ys : List X) (y : X) → AllByRecursion P ys → P y → AllByRecursion P (ys ++ y ∷ [])
-all_push P [] y each one = (one, tt)
-all_push P (z ∷ ys) y each one = (each.0, all_push P ys y each.1 one)
-
--- what holds of each element holds from the other end
-pub all_turned : {X : Type 0} (P : X → Type 0) (xs : List X) → AllByRecursion P xs → AllByRecursion P (reverse xs)
-all_turned P [] all = tt
-all_turned P (x ∷ xs) all = subst (AllByRecursion P) (sym (turned_cons x xs)) (all_push P (reverse xs) x (all_turned P xs all.1) all.0)
