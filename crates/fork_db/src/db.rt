@@ -399,6 +399,13 @@ impl ForkDb {
         judge_child(&self.tree, self.tip, parent, child)
     }
 
+    /// For how many more blocks the limit has room.
+    pub fn left(&self) -> u64
+        ensures { length self.now.history + result ≡ self.now.limit }
+    {
+        self.limit - self.len()
+    }
+
     /// Makes room for that many more blocks.
     pub fn reserve(&mut self, more: u64) -> Result<(), ForkFault>
         ensures history { self.new.history ≡ self.old.history }
@@ -417,9 +424,8 @@ impl ForkDb {
         if more <= self.tree.room() {
             return Ok(());
         }
-        let len = self.tree.len() as u64;
-        if self.limit - len < more {
-            return Err(ForkFault::Full { len });
+        if self.left() < more {
+            return Err(ForkFault::Full { len: self.len() });
         }
         if more > BLOCKS_MAX {
             return Err(ForkFault::Mem);
@@ -450,20 +456,27 @@ impl ForkDb {
             → result ≡ Err (ForkFault.Full (length self.old.history)) }
     {
         self.reserve(1)?;
-        Ok(self.append_reserved(slip, block))
+        let parent = self.tree.find(&slip.parent_id);
+        Ok(self.append_reserved(slip, block, parent))
     }
 
-    /// Appends a block that may come next, for which there is room.
-    fn append_reserved(&mut self, slip: Slip, block: Option<Arc<Block>>) -> usize
+    /// The same for a block for which there is room and whose parent's place is known: none for the
+    /// first block. It takes no memory.
+    pub fn append_reserved(
+        &mut self,
+        slip: Slip,
+        block: Option<Arc<Block>>,
+        parent: Option<usize>,
+    ) -> usize
         requires slip { IfSome block (λ b. slip ≡ slip_of_block b.value) }
         requires fits { verdict_of self.old.history slip ≡ fits }
         requires room { 0 < self.old.room }
+        requires parent { place_of self.old.history slip.parent_id ≡ parent }
         ensures place { result ≡ length self.old.history }
         ensures appended { IsAppended self.old self.new slip (option_map (λ b. b.value) block) }
         ensures room { self.new.room + 1 ≡ self.old.room }
     {
         let at = self.tree.len();
-        let parent = self.tree.find(&slip.parent_id);
         let claim = next_claim(&self.tree, parent, &slip);
         self.tree.push(slip, parent);
         self.claims.push_reserved(claim as u32);

@@ -1,4 +1,4 @@
-use Rattle.std.proofs.Common.{arith, ap, sym, ◌∙◌, refl, cond, ◌≡◌, ◌<◌}
+use Rattle.std.proofs.Common.{arith, ap, sym, ◌∙◌, cond, ◌≡◌, ◌<◌}
 use Rattle.fork_db.specs.declared.db.Verdict.TheVariants as verdict
 use Rattle.fork_db.proofs.VerdictFacts.{child_of, child_verdict}
 use Rattle.fork_db.proofs.db.judge_child.Goals as goal

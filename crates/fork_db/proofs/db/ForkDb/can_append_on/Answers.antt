@@ -1,4 +1,4 @@
-use Rattle.std.proofs.Common.{arith, ◌≡◌, ◌<◌, false, length, Some, subst, ap, sym, ◌∙◌, refl}
+use Rattle.std.proofs.Common.{arith, ◌≡◌, false, Some, subst, ap, sym, ◌∙◌, refl}
 use Rattle.block_tree.specs.Places.{place_of}
 use Rattle.block_tree.proofs.PlaceFacts.{is_held, place_range}
 use Rattle.chain_model.specs.Ancestry.{has_id}
