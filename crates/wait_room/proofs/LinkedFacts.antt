@@ -1,13 +1,13 @@
 -- Facts of the waiting blocks whose parents are held: how many there are, and the only one.
-use Rattle.std.proofs.Common.{arith, ◌≡◌, ◌<◌, ◌+◌, ℕ, zero, suc, Bool, true, inl, inr, Some, List, [], ◌∷◌, length, reverse, refl, sym, ◌∙◌, ap, cond, false}
-use Rattle.std.specs.List.{filter, slice_get}
+use Rattle.std.proofs.Common.{arith, ◌≡◌, ◌<◌, ◌+◌, ℕ, zero, suc, Bool, true, inl, inr, None, Option, Some, nat_lt, List, [], ◌∷◌, length, reverse, refl, sym, ◌∙◌, ap, cond, false}
+use Rattle.std.specs.List.{AllByRecursion, filter, slice_get}
 use Rattle.std.proofs.lemmas.Bool.{cases_Bool}
 use Rattle.std.proofs.lemmas.List.{length-reverse}
 use Rattle.std.proofs.lemmas.Option.{same_Some, slice_get-map}
 use Rattle.block_record.specs.declared.blocks.Slip.{Slip}
 use Rattle.block_tree.specs.Places.{slip_at}
 use Rattle.chain_model.specs.Ancestry.{has_id}
-use Rattle.relay_model.specs.Worlds.{least, next_waiting}
+use Rattle.relay_model.specs.Worlds.{least, lesser, next_waiting}
 use Rattle.wait_room.specs.declared.waiters.Waiter.{Waiter}
 use Rattle.wait_room.specs.Rooms.{children_in, linked_in, slips_of, waiting_of}
 use Rattle.block_record.specs.Ids.{same_id, same_id_equiv, same_id-true}
@@ -52,6 +52,35 @@ only_next held ws i s e linked one =
     let at : slice_get (slips_of ws) i ≡ Some s = slice_get-map (λ (w : Waiter). w.slip) ws i ∙ sym (slip_at_slices ws i) ∙ e in
     let here : length (filter p (slips_of ws)) ≡ 1 = sym (length-reverse (filter p (slips_of ws))) ∙ sym (ap length turned) ∙ one in
     sym (ap least (turned ∙ ap reverse (only_passes p (slips_of ws) i s at linked here)))
+
+-- none is linked where there is no next one
+pub none_linked : (held waiting : List Slip) → next_waiting held waiting ≡ None → linked_in held waiting ≡ 0
+none_linked held waiting e = ap length (none_least (filter (λ (s : Slip). has_id held s.parent_id) waiting) e)
+  where
+    some_lesser : (o : Option Slip) (s : Slip) → lesser o s ≡ None → ⊥
+    some_lesser None s e = absurd (grind (arith, e))
+    some_lesser (Some t) s e = by (nat_lt s.num t.num) e
+      where
+        by : (b : Bool) → cond b (Some s) (Some t) ≡ None → ⊥
+        by true e = absurd (grind (arith, e))
+        by false e = absurd (grind (arith, e))
+
+    none_least : (xs : List Slip) → least xs ≡ None → xs ≡ []
+    none_least [] e = refl
+    none_least (s ∷ older) e = absurd (some_lesser (least older) s e)
+
+-- and there is no next one where none is linked
+pub none_next : (held waiting : List Slip) → linked_in held waiting ≡ 0 → next_waiting held waiting ≡ None
+none_next held waiting e = ap least (nothing (filter (λ (s : Slip). has_id held s.parent_id) waiting) e)
+  where
+    nothing : (xs : List Slip) → length xs ≡ 0 → xs ≡ []
+    nothing [] e = refl
+    nothing (x ∷ xs) e = absurd (omega (arith, e))
+
+-- none is linked where no block's parent is held
+pub none_held : (held waiting : List Slip) → AllByRecursion (λ s. has_id held s.parent_id ≡ false) waiting → linked_in held waiting ≡ 0
+none_held held [] apart = refl
+none_held held (s ∷ older) apart = rw apart.0 (none_held held older apart.1)
 
 swap_true : (a b : List ℕ) → same_id a b ≡ true → same_id b a ≡ true
 swap_true a b same = sym (same_id_equiv.symm a b) ∙ same

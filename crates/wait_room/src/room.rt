@@ -1,6 +1,6 @@
 //! The room.
 
-ghost use Rattle.std.specs.Prelude.{◌≡◌, ◌<◌, ◌≤◌, ◌^◌, ◌+◌, ℕ, List, Bool, [], filter, length, if◌then◌else◌, IfOk, IfSome, IsSome, OnOk, OnErr, IsTrue, Some, false};
+ghost use Rattle.std.specs.Prelude.{◌≡◌, ◌<◌, ◌≤◌, ◌^◌, ◌+◌, ℕ, List, Bool, [], filter, length, if◌then◌else◌, IfNone, IfOk, IfSome, IsSome, OnOk, OnErr, IsTrue, Some, false};
 ghost use Rattle.std.specs.List.{AllZip};
 ghost use Rattle.std.specs.Option.{option_copied, option_map};
 ghost use Rattle.block_record.specs.declared.blocks.Slip.{Slip as SlipOf};
@@ -118,6 +118,10 @@ impl WaitRoom {
     pub fn find(&self, id: &Id) -> Option<&Slip>
         ensures { option_copied result ≡ find_id self.now.waiting id.now }
     {
+        // An empty room hashes nothing.
+        if self.blocks() == 0 {
+            return None;
+        }
         match self.waiters.get(id) {
             Some(waiter) => Some(&waiter.slip),
             None => None,
@@ -128,6 +132,9 @@ impl WaitRoom {
     pub fn children(&self, id: &Id) -> u64
         ensures { result ≡ children_in self.now.waiting id.now }
     {
+        if self.blocks() == 0 {
+            return 0;
+        }
         count_children(&self.children, id)
     }
 
@@ -234,6 +241,7 @@ impl WaitRoom {
         ensures given { AreKept self.old → IfSome result (λ p. IsSome p.1) }
         ensures left { IfSome result
             (λ _. linked ≡ linked_in (H.history held.now) self.new.waiting + 1) }
+        ensures none { IfNone result (linked ≡ 0) }
     {
         let at = self.find_linked(held, linked, parent)?;
         Some(self.take_at(at))

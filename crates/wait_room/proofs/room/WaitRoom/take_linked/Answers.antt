@@ -2,7 +2,7 @@ use Rattle.std.proofs.Common.{not, sym, ◌∙◌}
 use Rattle.std.specs.Arc.{arc_value}
 use Rattle.block_record.specs.declared.blocks.Slip.{Slip}
 use Rattle.block_record.specs.Ids.{same_id}
-use Rattle.wait_room.proofs.LinkedFacts.{linked_taken}
+use Rattle.wait_room.proofs.LinkedFacts.{linked_taken, none_linked}
 use Rattle.wait_room.proofs.RoomFacts.{found_kept, where_kept}
 use Rattle.wait_room.proofs.room.WaitRoom.take_linked.Goals as goal
 
@@ -15,3 +15,7 @@ returns-clause-given g c = λ kept. found_kept arc_value c.args.self.now.waiting
 pub returns-clause-left : goal.returns-clause-left
 returns-clause-left g c =
     c.requires ∙ linked_taken (g.H.Holds.history c.args.held.now) c.args.self.now.waiting c.take_at.new.self.waiting c.take_at.result.0 (sym c.take_at.ensures.slip ∙ c.in_ok-at.ensures.least) c.take_at.ensures.counts
+
+pub returns-in_err-at-clause-none : goal.returns-in_err-at-clause-none
+returns-in_err-at-clause-none g c =
+    rw c.from_residual.ensures (c.requires ∙ none_linked (g.H.Holds.history c.args.held.now) c.args.self.now.waiting (sym c.in_err-at.ensures.least))
