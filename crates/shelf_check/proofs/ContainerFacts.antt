@@ -5,7 +5,7 @@ use Rattle.std.proofs.lemmas.Bool.{lt-ltb}
 use Rattle.std.proofs.lemmas.Slice.Eq.{bytes_eq-Decides}
 use Rattle.std.specs.Str.{bytes_eq}
 use Rattle.dbin_file.specs.Contents.{told}
-use Rattle.one_block.specs.Containers.{fault_place, IsRecordOf, HasContents}
+use Rattle.one_block.specs.Containers.{fault_place, HasContents}
 use Rattle.one_block.specs.declared.containers.FileContents.{FileContents}
 use Rattle.shelf_check.specs.Containers.{IsKept, HasHead, IsBadHead, HasOtherType}
 use Rattle.shelf_check.specs.Steps.{IsOtherThan}

@@ -1,5 +1,5 @@
 -- A good shelf has no first fault, and one report: what stands before a fault is what the files tell.
-use Rattle.std.proofs.Common.{◌≡◌, ◌+◌, ◌⊎◌, ℕ, List, [], ◌∷◌, ◌++◌, length, map, reverse, codes, Option, Some, None, Result, Ok, Err, inl, inr, refl, sym, ap, subst, ◌∙◌}
+use Rattle.std.proofs.Common.{◌≡◌, ◌+◌, ◌⊎◌, ℕ, List, [], ◌∷◌, ◌++◌, length, map, Option, Some, None, Result, Ok, Err, inl, inr, refl, sym, ap, subst, ◌∙◌}
 use Rattle.std.specs.Prelude.{IsPermutation}
 use Rattle.std.specs.Option.{unwrap_or}
 use Rattle.std.specs.List.{AllByRecursion}
@@ -9,11 +9,11 @@ use Rattle.std.specs.Ordering.{nat_cmp, ordering_then}
 use Rattle.std.specs.declared.cmp.Ordering.{Ordering}
 use Rattle.std.specs.declared.cmp.Ordering.TheVariants as order
 use Rattle.std.proofs.lemmas.Map.Lookups.{exact_unsigned, exact_bytes}
-use Rattle.std.proofs.lemmas.List.{length-map, length-reverse}
+use Rattle.std.proofs.lemmas.List.{length-map}
 use Rattle.block_record.specs.declared.blocks.Block.{Block}
 use Rattle.block_record.specs.declared.blocks.BlockRef.{BlockRef}
 use Rattle.block_record.specs.Records.{record_text}
-use Rattle.dbin_file.specs.Contents.{contents, told}
+use Rattle.dbin_file.specs.Contents.{contents}
 use Rattle.one_block.specs.Files.{merged_base_of}
 use Rattle.one_block.specs.declared.faults.StoreFault.TheVariants as store
 use Rattle.outer_world.specs.Files.{Files, file_at}
@@ -28,11 +28,10 @@ use Rattle.shelf_check.specs.declared.forms.Form.{Form}
 use Rattle.one_block.specs.Containers.{IsReadable}
 use Rattle.shelf_check.specs.Containers.{AreRecords}
 use Rattle.shelf_check.specs.Bundles.{tip_after, BundleRefused}
-use Rattle.shelf_check.specs.Forms.{form_of}
 use Rattle.shelf_check.specs.Singles.{FormedRefused, AnswersBy}
-use Rattle.shelf_check.specs.Folders.{HasText, Single, IsSingle, kept_after, AreSingles, names_of, IsFolder, IsBadFile}
+use Rattle.shelf_check.specs.Folders.{HasText, Single, IsSingle, kept_after, AreSingles, IsFolder, IsBadFile}
 use Rattle.shelf_check.specs.Folders.{IsFirstIn as IsFirstInFolder}
-use Rattle.shelf_check.specs.Merged.{Entry, entry_order, AreBased, AreOrdered, Bundle, IsBundleOn, kept_of, tip_of, block_count, AreBundles, entries_of, IsMerged, IsOtherName, IsFirstBased, IsBadBundle}
+use Rattle.shelf_check.specs.Merged.{Entry, entry_order, AreOrdered, Bundle, IsBundleOn, kept_of, tip_of, block_count, AreBundles, entries_of, IsMerged, IsOtherName, IsFirstBased, IsBadBundle}
 use Rattle.shelf_check.specs.Merged.{IsFirstIn as IsFirstInMerged}
 use Rattle.shelf_check.specs.Refusals.{Refused}
 use Rattle.shelf_check.specs.Shelf.{report_of, IsGood, IsFirstFault, CheckAnswers, IsGoodShelf, IsReported}
