@@ -11,11 +11,10 @@ use Rattle.chain_model.specs.Ancestry.{has_id}
 use Rattle.chain_model.specs.Finality.{root_num}
 use Rattle.fork_db.specs.Forks.{Forks}
 use Rattle.fork_db.specs.Verdicts.{verdict_of, fits}
-use Rattle.wait_room.specs.Rooms.{Room, has_child, room_without}
-use Rattle.block_record.specs.Ids.{same_id}
-use Rattle.std.proofs.lemmas.Bool.{or_parts}
+use Rattle.wait_room.specs.Rooms.{Room, children_in, linked_in, room_without}
+use Rattle.wait_room.proofs.LinkedFacts.{linked_more, none_held}
 use Rattle.relay_model.proofs.Judged.{IsTaker, judged_takes}
-use Rattle.relay_model.proofs.Sound.{first_intake, new_parts, rises_above, starts, swap_ids}
+use Rattle.relay_model.proofs.Sound.{first_intake, new_parts, rises_above, starts}
 use Rattle.block_relay.proofs.JudgedFacts.{fits_child}
 use Rattle.relay_model.proofs.Intakes.{keeps_one, next_is}
 use Rattle.block_relay.specs.Taking.{AreAllSome, CanStart, CanTake, Dropping, HasLimits, dropped_after, history_after}
@@ -46,10 +45,6 @@ next_can d x room left can e le =
       enough = omega (arith, ap (λ l. length (filter test l)) (waiting_judged d x (clash d.history x)), k.fewer, can.enough, le);
     }
 
-pub none_from : (o : Option Slip) → is_some o ≡ false → o ≡ None
-none_from None e = refl
-none_from (Some x) e = absurd (grind (arith, e))
-
 -- a block that a sound world admits may come next in its history
 pub start_fits : (db : Forks) (room : Room) (s : Slip) → CanStart db room s → verdict_of db.history s ≡ fits
 start_fits db room s can =
@@ -79,17 +74,12 @@ start_can db room s left can le =
       enough = omega (arith, le, ap (λ l. descendants l s.id) can.parts.waiting);
     }
 
--- no waiting block can follow where none names the block as its parent
-pub none_follows : (db : Forks) (room : Room) (s : Slip) → CanStart db room s → has_child room.waiting s.id ≡ false → next_waiting (s ∷ db.history) room.waiting ≡ None
-none_follows db room s can none =
+-- once the block is admitted, the parents of its children are held, and those of no other waiting block
+pub children_linked : (db : Forks) (room : Room) (s : Slip) → CanStart db room s → linked_in (s ∷ db.history) room.waiting ≡ children_in room.waiting s.id
+children_linked db room s can =
     let apart : AllByRecursion (λ x. has_id db.history x.parent_id ≡ false) room.waiting = rw (← can.parts.history, ← can.parts.waiting) can.sound.orphans in
-    ap least (nobody room.waiting apart none)
-  where
-    nobody : (xs : List Slip) → AllByRecursion (λ x. has_id db.history x.parent_id ≡ false) xs → has_child xs s.id ≡ false → filter (λ x. has_id (s ∷ db.history) x.parent_id) xs ≡ []
-    nobody [] all h = refl
-    nobody (x ∷ xs) all h =
-        let parts = or_parts (same_id x.parent_id s.id) (has_child xs s.id) h in
-        rw (swap_ids x.parent_id s.id parts.0, all.0) (nobody xs all.1 parts.1)
+    let new : has_id db.history s.id ≡ false = rw (← can.parts.history) (new_parts can.world s (judged_takes can.world s can.takes).new).1 in
+    omega (arith, linked_more db.history s room.waiting new, none_held db.history room.waiting apart)
 
 -- a room without a block keeps its limits
 pub without_blocks : (room : Room) (o : Option Slip) → (room_without room o).most_blocks ≡ room.most_blocks

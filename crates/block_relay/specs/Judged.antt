@@ -1,6 +1,6 @@
 -- The rule that decides an offer, as the code tells it.
-use Rattle.std.specs.Prelude.{ℕ, ◌≡◌, List, Option, None, Some}
-use Rattle.block_tree.specs.Places.{slip_at}
+use Rattle.std.specs.Prelude.{ℕ, ◌≡◌, List, Option, None, Some, ⊤}
+use Rattle.block_tree.specs.Places.{place_of, slip_at}
 use Rattle.block_record.specs.declared.blocks.Slip.{Slip}
 use Rattle.relay_model.specs.declared.answers.Conflict.{Conflict as Clash}
 use Rattle.relay_model.specs.declared.answers.ConflictKind.{ConflictKind}
@@ -20,7 +20,18 @@ verdict_of_judged w s judged.TooEarly = TooEarly
 verdict_of_judged w s judged.Late = Late
 verdict_of_judged w s judged.NoRoom = NoRoom
 verdict_of_judged w s judged.Waits = Waits
-verdict_of_judged w s judged.Links = judge_limit w s
+verdict_of_judged w s (judged.Links parent) = judge_limit w s
+
+-- a block that links has its parent at the place that is told, and none where it is the first
+abbrev pub IsLinked : List Slip → Slip → Judged → Type 0
+IsLinked newest s (judged.Links parent) = place_of newest s.parent_id ≡ parent
+IsLinked newest s judged.Shut = ⊤
+IsLinked newest s judged.Repeats = ⊤
+IsLinked newest s (judged.Clashes kind held) = ⊤
+IsLinked newest s judged.TooEarly = ⊤
+IsLinked newest s judged.Late = ⊤
+IsLinked newest s judged.NoRoom = ⊤
+IsLinked newest s judged.Waits = ⊤
 
 -- the conflict with a block of the history, where it was found
 abbrev pub clash_at : Slip → ConflictKind → Option Slip → Option Clash

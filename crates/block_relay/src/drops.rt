@@ -1,12 +1,13 @@
 //! What an admission drops.
 
-ghost use Rattle.std.specs.Prelude.{◌≡◌, ◌<◌, ◌≤◌, ◌+◌, ◌∷◌, [], IfOk, OnOk, reverse, vec_len, vec_capacity};
+ghost use Rattle.std.specs.Prelude.{◌≡◌, ◌<◌, ◌≤◌, ◌+◌, ◌++◌, ◌∷◌, [], length, OnOk, reverse, vec_len, vec_capacity};
 ghost use Rattle.relay_model.specs.Offers.{conflict};
 
 use block_record::{Slip, SlipBuffer};
 use relay_model::{Conflict, ConflictKind};
 use std::alloc::{AllocError, Global};
 use std::marker::Model;
+use std::mem;
 
 /// Memory for the two conflicts of a block that is dropped, of which its own slip serves for one.
 #[derive(Drop)]
@@ -27,8 +28,8 @@ impl Buffers {
 }
 
 /// The conflicts of the waiting blocks that an admission drops, once to be noted and once to be told.
-/// Its memory is taken before anything changes. Contracts see the conflicts, the last one first, and
-/// for how many more there is memory.
+/// Its memory is taken before anything changes, and serves the admissions after it. Contracts see
+/// the conflicts, the last one first, and for how many more there is memory.
 #[derive(Drop)]
 pub struct Drops {
     noted: Vec<Conflict>,
@@ -36,27 +37,6 @@ pub struct Drops {
     /// At least as many as may be dropped.
     buffers: Vec<Buffers>,
     left: usize,
-}
-
-/// What an admission dropped, with the memory that is left for later ones.
-#[derive(Drop)]
-pub struct Dropped {
-    /// The conflicts to be noted, in the order of dropping.
-    pub noted: Vec<Conflict>,
-    /// The same, to be told.
-    pub told: Vec<Conflict>,
-    buffers: Vec<Buffers>,
-}
-
-impl Dropped {
-    /// Nothing, and no memory.
-    pub fn nothing(alloc: Global) -> Dropped {
-        Dropped {
-            noted: Vec::new(alloc),
-            told: Vec::new(alloc),
-            buffers: Vec::new(alloc),
-        }
-    }
 }
 
 impl Model for Drops {
@@ -74,25 +54,29 @@ impl Model for Drops {
 }
 
 impl Drops {
-    /// Nothing is dropped, and there is memory for so many, with what an earlier admission left.
-    pub fn new(alloc: Global, most: usize, earlier: Dropped) -> Result<Drops, AllocError>
-        ensures conflicts { IfOk result (λ d. d.conflicts ≡ []) }
-        ensures spare { IfOk result (λ d. d.spare ≡ most) }
+    /// Nothing is dropped, and there is no memory.
+    pub fn new(alloc: Global) -> Drops
+        ensures conflicts { result.conflicts ≡ [] }
+        ensures spare { result.spare ≡ 0 }
     {
-        let Dropped {
-            noted,
-            told,
-            mut buffers,
-        } = earlier;
-        let noted = cleared(noted, most)?;
-        let told = cleared(told, most)?;
-        add_buffers(alloc, most, &mut buffers)?;
-        Ok(Drops {
-            noted,
-            told,
-            buffers,
-            left: most,
-        })
+        Drops {
+            noted: Vec::new(alloc),
+            told: Vec::new(alloc),
+            buffers: Vec::new(alloc),
+            left: 0,
+        }
+    }
+
+    /// Takes memory for so many, or what earlier admissions left.
+    pub fn reserve(&mut self, alloc: Global, most: usize) -> Result<(), AllocError>
+        ensures conflicts { self.new.conflicts ≡ self.old.conflicts }
+        ensures spare { OnOk result (self.new.spare ≡ most) }
+    {
+        self.noted.reserve(most)?;
+        self.told.reserve(most)?;
+        add_buffers(alloc, most, &mut self.buffers)?;
+        self.left = most;
+        Ok(())
     }
 
     /// Drops a block that contradicts one that is held. It takes no memory.
@@ -116,39 +100,27 @@ impl Drops {
         });
     }
 
-    /// What was dropped.
-    pub fn finish(self) -> Dropped
-        ensures noted { reverse result.noted.items ≡ self.conflicts }
-        ensures told { reverse result.told.items ≡ self.conflicts }
+    /// Notes what was dropped where there is room, and gives it out. It takes no memory.
+    pub fn finish(&mut self, alloc: Global, noted: &mut Vec<Conflict>) -> Vec<Conflict>
+        requires { vec_len noted.old + length self.old.conflicts ≤ vec_capacity noted.old }
+        ensures told { reverse result.items ≡ self.old.conflicts }
+        ensures noted { noted.new.items ≡ noted.old.items ++ result.items }
+        ensures conflicts { self.new.conflicts ≡ [] }
     {
-        let Drops {
-            noted,
-            told,
-            buffers,
-            ..
-        } = self;
-        Dropped {
-            noted,
-            told,
-            buffers,
+        if self.told.is_empty() {
+            return Vec::new(alloc);
         }
+        // It takes no memory: there is room.
+        let _ = noted.append(&mut self.noted);
+        self.left = 0;
+        mem::replace(&mut self.told, Vec::new(alloc))
     }
-}
-
-/// The vector without its conflicts, with room for so many.
-fn cleared(mut conflicts: Vec<Conflict>, most: usize) -> Result<Vec<Conflict>, AllocError>
-    ensures items { IfOk result (λ v. v.items ≡ []) }
-    ensures len { IfOk result (λ v. vec_len v ≡ 0) }
-    ensures capacity { IfOk result (λ v. most ≤ vec_capacity v) }
-{
-    conflicts.clear();
-    conflicts.reserve(most)?;
-    Ok(conflicts)
 }
 
 /// Adds buffers until there are so many.
 fn add_buffers(alloc: Global, most: usize, buffers: &mut Vec<Buffers>) -> Result<(), AllocError>
-    ensures { OnOk result (most ≤ vec_len buffers.new) }
+    ensures enough { OnOk result (most ≤ vec_len buffers.new) }
+    ensures grows { vec_len buffers.old ≤ vec_len buffers.new }
 {
     let len = buffers.len();
     if most <= len {

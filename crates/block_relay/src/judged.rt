@@ -1,6 +1,6 @@
 //! Which rule decides an offer.
 
-ghost use Rattle.std.specs.Prelude.{◌≡◌, ◌<◌, ◌++◌, length, IfSome, None, Some, false};
+ghost use Rattle.std.specs.Prelude.{◌≡◌, ◌<◌, ◌++◌, length, IfSome, List, None, Some, false};
 ghost use Rattle.std.specs.Option.{option_copied};
 ghost use Rattle.block_record.specs.Slips.{same_slip};
 ghost use Rattle.chain_model.specs.Ancestry.{find_id, has_id};
@@ -9,7 +9,8 @@ ghost use Rattle.relay_model.specs.Offers.{clash, judge_clash, judge_held, judge
 ghost use Rattle.block_tree.specs.Places.{place_of, slip_at};
 ghost use Rattle.relay_model.specs.Soundness.{IsBlock};
 ghost use Rattle.relay_model.specs.Worlds.{World};
-ghost use Rattle.block_relay.specs.Judged.{HasParts, clash_of, verdict_of_judged};
+ghost use Rattle.block_record.specs.declared.blocks.Slip.{Slip as SlipOf};
+ghost use Rattle.block_relay.specs.Judged.{HasParts, IsLinked, clash_of, verdict_of_judged};
 
 use block_record::{Id, Slip};
 use fork_db::{ForkDb, Verdict};
@@ -35,8 +36,8 @@ pub enum Judged<'a> {
     NoRoom,
     /// It has to wait for its parent.
     Waits,
-    /// It is the root, or its parent is held and it contradicts nothing.
-    Links,
+    /// It is the root, or its parent is held at this place and it contradicts nothing.
+    Links(Option<usize>),
 }
 
 /// How a block contradicts the history, which has its parent at a place and not itself, and with
@@ -69,9 +70,10 @@ fn tip_place(db: &ForkDb) -> usize
 
 /// The rule for a block whose parent is not held.
 fn judge_orphan<'a>(db: &'a ForkDb, room: &WaitRoom, slip: &Slip) -> Judged<'a>
-    ensures { (w : World) → HasParts w db.now room.now
+    ensures rule { (w : World) → HasParts w db.now room.now
         → verdict_of_judged w slip.now result
         ≡ judge_parent w slip.now None }
+    ensures parent { IsLinked db.now.history slip.now result }
 {
     if slip.num <= tip_number(db) {
         return Judged::Late;
@@ -88,13 +90,14 @@ fn judge_child<'a>(db: &'a ForkDb, parent: usize, slip: &Slip) -> Judged<'a>
     requires fresh { has_id db.now.history slip.now.id ≡ false }
     requires parent { place_of db.now.history slip.now.parent_id ≡ Some parent }
     requires rises { slip.now.parent_num < slip.now.num }
-    ensures { (w : World) → w.history ≡ db.now.history
+    ensures rule { (w : World) → w.history ≡ db.now.history
         → verdict_of_judged w slip.now result
         ≡ judge_clash w slip.now (clash w.history slip.now) }
+    ensures parent { IsLinked db.now.history slip.now result }
 {
     match clash_with(db, parent, slip) {
         Some((kind, held)) => Judged::Clashes(kind, db.slip(held)),
-        None => Judged::Links,
+        None => Judged::Links(Some(parent)),
     }
 }
 
@@ -102,12 +105,13 @@ fn judge_child<'a>(db: &'a ForkDb, parent: usize, slip: &Slip) -> Judged<'a>
 fn judge_linked<'a>(db: &'a ForkDb, room: &WaitRoom, slip: &Slip) -> Judged<'a>
     requires fresh { has_id db.now.history slip.now.id ≡ false }
     requires block { IsBlock slip.now }
-    ensures { (w : World) → HasParts w db.now room.now
+    ensures rule { (w : World) → HasParts w db.now room.now
         → verdict_of_judged w slip.now result
         ≡ judge_linked_in w slip.now w.history }
+    ensures parent { IsLinked db.now.history slip.now result }
 {
     if db.len() == 0 {
-        return Judged::Links;
+        return Judged::Links(None);
     }
     if slip.num <= db.slip(0).num {
         return Judged::Late;
@@ -131,10 +135,11 @@ fn held_slip<'a>(db: &'a ForkDb, room: &'a WaitRoom, id: &Id) -> Option<&'a Slip
 /// The rule that decides an offer, in a relay that is open.
 pub fn judge_open<'a>(first: u64, db: &'a ForkDb, room: &'a WaitRoom, slip: &Slip) -> Judged<'a>
     requires { IsBlock slip.now }
-    ensures { (w : World) → HasParts w db.now room.now → w.first ≡ first
+    ensures rule { (w : World) → HasParts w db.now room.now → w.first ≡ first
         → verdict_of_judged w slip.now result
         ≡ judge_held w slip.now
         (find_id (w.waiting ++ w.history) slip.now.id) }
+    ensures parent { IsLinked db.now.history slip.now result }
 {
     match held_slip(db, room, &slip.id) {
         Some(held) => judge_same(held, slip),
@@ -145,8 +150,9 @@ pub fn judge_open<'a>(first: u64, db: &'a ForkDb, room: &'a WaitRoom, slip: &Sli
 
 /// The rule for a block whose id is held.
 fn judge_same<'a>(held: &'a Slip, slip: &Slip) -> Judged<'a>
-    ensures { (w : World) → verdict_of_judged w slip.now result
+    ensures rule { (w : World) → verdict_of_judged w slip.now result
         ≡ judge_held w slip.now (Some held.now) }
+    ensures parent { (newest : List SlipOf) → IsLinked newest slip.now result }
 {
     if held == slip {
         return Judged::Repeats;

@@ -4,7 +4,7 @@ ghost use Rattle.std.specs.Prelude.{◌++◌, drop, map, take, Option, ◌≡◌
 ghost use Rattle.std.specs.List.{AllByRecursion};
 ghost use Rattle.std.specs.Option.{is_some, option_copied, option_map, option_or};
 ghost use Rattle.block_record.specs.Slips.{slip as slip_of_block};
-ghost use Rattle.block_tree.specs.Places.{slip_at};
+ghost use Rattle.block_tree.specs.Places.{place_of, slip_at};
 ghost use Rattle.block_record.specs.declared.blocks.Slip.{Slip as SlipOf};
 ghost use Rattle.chain_model.specs.declared.places.Mode.{Mode as ModeOf};
 ghost use Rattle.chain_model.specs.Places.{steps_to};
@@ -18,10 +18,10 @@ ghost use Rattle.block_relay.specs.Chronicle.{closed_entries, greeted, kind_entr
 ghost use Rattle.block_relay.specs.Answers.{IsAnswer, is_mem};
 ghost use Rattle.block_relay.specs.Done.{IsDone};
 ghost use Rattle.block_relay.specs.Held.{HasBlock};
-ghost use Rattle.block_relay.specs.Judged.{verdict_of_judged};
+ghost use Rattle.block_relay.specs.Judged.{IsLinked, verdict_of_judged};
 
 use crate::answers::{KindFault, OfferFault, Offered};
-use crate::drops::{Dropped, Drops};
+use crate::drops::Drops;
 use crate::judged::{Judged, judge_open};
 use crate::limits::Limits;
 use crate::marks::Mark;
@@ -33,7 +33,6 @@ use relay_look::{Look, LookFault, Position, look};
 use relay_model::{Conflict, ConflictKind};
 use std::alloc::{AllocError, Global};
 use std::marker::Model;
-use std::mem;
 use std::sync::Arc;
 use step_cursor::Request;
 use wait_room::WaitRoom;
@@ -55,13 +54,13 @@ pub struct Relay {
     conflicts: Vec<Conflict>,
     closed: bool,
     payloads: Payloads,
-    /// Memory for the conflicts of dropped blocks, which each admission leaves to the next.
-    spare: Dropped,
+    /// Nothing but memory, outside an admission.
+    drops: Drops,
     alloc: Global,
 }
 
 impl Model for Relay {
-    ghost use Rattle.std.specs.Prelude.{◌≡◌, ◌<◌, reverse, vec_len, vec_capacity, false, None};
+    ghost use Rattle.std.specs.Prelude.{◌≡◌, ◌<◌, [], reverse, vec_len, vec_capacity, false, None};
     ghost use Rattle.relay_model.specs.Chronicles.{Opened};
     ghost use Rattle.block_relay.specs.Chronicle.{IsKept, Told, entries_by, has_kind_mark, limits_told, world_told};
     ghost use Rattle.block_relay.specs.Taking.{AreHeld};
@@ -82,7 +81,8 @@ impl Model for Relay {
     })) t.db t.room t.kind t.closed t.first t.run
         × (t.closed ≡ false → vec_len t.marks < vec_capacity t.marks)
         × (t.kind ≡ None → has_kind_mark (reverse t.marks.items) ≡ false)
-        × (t.payloads ≡ Kept → AreHeld t.db t.room) };
+        × (t.payloads ≡ Kept → AreHeld t.db t.room)
+        × (t.drops.conflicts ≡ []) };
 }
 
 impl Relay {
@@ -112,7 +112,7 @@ impl Relay {
             conflicts: Vec::new(alloc),
             closed: false,
             payloads,
-            spare: Dropped::nothing(alloc),
+            drops: Drops::new(alloc),
             alloc,
         })
     }
@@ -299,8 +299,9 @@ impl Relay {
     /// Which rule decides an offer. It takes no memory.
     fn judge(&self, slip: &Slip) -> Judged<'_>
         requires { IsBlock slip.now }
-        ensures { verdict_of_judged (world_told self.now) slip.now result
+        ensures rule { verdict_of_judged (world_told self.now) slip.now result
             ≡ judge_in (world_told self.now) slip.now }
+        ensures parent { IsLinked (world_told self.now).history slip.now result }
     {
         if self.closed {
             return Judged::Shut;
@@ -329,7 +330,7 @@ impl Relay {
                 bytes: self.room.bytes(),
             }),
             Judged::Waits => self.let_wait(slip, block),
-            Judged::Links => self.admit(slip, block),
+            Judged::Links(parent) => self.admit(slip, block, parent),
         }
     }
 
@@ -385,9 +386,16 @@ impl Relay {
     }
 
     /// Admits a block that links, with the waiting blocks that follow it, where the limit has room.
-    fn admit(&mut self, slip: Slip, block: Option<Arc<Block>>) -> Result<Offered, OfferFault>
+    /// `parent` is its parent's place, and none for the root.
+    fn admit(
+        &mut self,
+        slip: Slip,
+        block: Option<Arc<Block>>,
+        parent: Option<usize>,
+    ) -> Result<Offered, OfferFault>
         requires own { IfSome block (λ b. slip ≡ slip_of_block b.value) }
         requires block { IsBlock slip }
+        requires parent { place_of (world_told self.old).history slip.parent_id ≡ parent }
         requires payloads { self.old.payloads ≡ Payloads.Kept → is_some block ≡ true }
         requires links { judge_in (world_told self.old) slip
             ≡ judge_limit (world_told self.old) slip }
@@ -395,22 +403,19 @@ impl Relay {
     {
         let from = self.db.len();
         let follow = make_room(&mut self.db, &self.room, &slip.id)?;
-        let spare = mem::replace(&mut self.spare, Dropped::nothing(self.alloc));
-        let mut drops = Drops::new(self.alloc, follow as usize, spare)?;
+        self.drops.reserve(self.alloc, follow as usize)?;
         reserve_admitted(&mut self.marks, &mut self.conflicts, follow)?;
         let root_kind = kind_of_root(self.alloc, from, &self.kind)?;
-        admit(&mut self.db, &mut self.room, &mut drops, slip, block);
+        let (db, room) = (&mut self.db, &mut self.room);
+        admit(db, room, &mut self.drops, slip, block, parent);
         let count = self.db.len() - from;
         keep_root_kind(&mut self.kind, &mut self.marks, root_kind);
         mark_admitted(&mut self.marks, count);
-        let mut dropped = drops.finish();
-        let _ = self.conflicts.append(&mut dropped.noted);
-        let told = take_told(self.alloc, &mut dropped.told);
-        self.spare = dropped;
+        let dropped = self.drops.finish(self.alloc, &mut self.conflicts);
         Ok(Offered::Admitted {
             from,
             count,
-            dropped: told,
+            dropped,
         })
     }
 }
@@ -507,16 +512,6 @@ fn keep_root_kind(kept: &mut Option<Kind>, marks: &mut Vec<Mark>, root: Option<K
         *kept = Some(kind);
         marks.push_reserved(Mark::Kind);
     }
-}
-
-/// Takes the conflicts out. Where there are none their memory stays.
-fn take_told(alloc: Global, told: &mut Vec<Conflict>) -> Vec<Conflict>
-    ensures { result.items ≡ told.old.items }
-{
-    if told.is_empty() {
-        return Vec::new(alloc);
-    }
-    mem::replace(told, Vec::new(alloc))
 }
 
 /// Marks so many blocks as admitted.

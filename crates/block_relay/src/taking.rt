@@ -6,6 +6,8 @@ ghost use Rattle.block_record.specs.Slips.{slip as slip_of_block};
 ghost use Rattle.chain_model.specs.Ancestry.{has_id};
 ghost use Rattle.relay_model.specs.Offers.{clash, purged, take_in, take_one};
 ghost use Rattle.relay_model.specs.Worlds.{descendants, next_waiting};
+ghost use Rattle.block_tree.specs.Places.{place_of};
+ghost use Rattle.wait_room.specs.Rooms.{linked_in};
 ghost use Rattle.block_relay.specs.Taking.{AreAllSome, AreHeld, CanStart, CanTake, HasLimits, dropped_after, history_after, intake_from, intake_of, IsRoomFault};
 
 use crate::answers::OfferFault;
@@ -49,6 +51,21 @@ fn most_in(room: &WaitRoom, id: &Id) -> u64
     if room.has_child(id) { waiting } else { 0 }
 }
 
+/// No fewer blocks than descend from the id: where the limit of the history has room for all that
+/// wait, not their count.
+fn follow_most(db: &ForkDb, room: &WaitRoom, id: &Id) -> Result<u64, AllocError>
+    ensures most { IfOk result (λ n. descendants room.now.waiting id.now ≤ n) }
+    ensures small { IfOk result (λ n. n < 2 ^ 63) }
+    ensures exact { IfOk result (λ n. db.now.limit < length db.now.history + (1 + n)
+        → n ≡ descendants room.now.waiting id.now) }
+{
+    let most = most_in(room, id);
+    if most < db.left() {
+        return Ok(most);
+    }
+    count_in(room, id)
+}
+
 /// Makes room in the history for a block and the waiting blocks that descend from it, and says for
 /// how many of these there is room.
 pub fn make_room(db: &mut ForkDb, room: &WaitRoom, id: &Id) -> Result<u64, OfferFault>
@@ -66,51 +83,30 @@ pub fn make_room(db: &mut ForkDb, room: &WaitRoom, id: &Id) -> Result<u64, Offer
     ensures limited { db.old.limit < length db.old.history
         + (1 + descendants room.now.waiting id.now) → IsErr result }
 {
-    let most = most_in(room, id);
-    match db.reserve(1 + most) {
-        Ok(()) => Ok(most),
-        Err(ForkFault::Full { .. }) => make_room_for(db, room, id),
-        Err(ForkFault::Mem) => Err(OfferFault::Mem),
-    }
-}
-
-/// The same by their count.
-fn make_room_for(db: &mut ForkDb, room: &WaitRoom, id: &Id) -> Result<u64, OfferFault>
-    ensures history { db.new.history ≡ db.old.history }
-    ensures held { db.new.held ≡ db.old.held }
-    ensures limit { db.new.limit ≡ db.old.limit }
-    ensures ok { IfOk result (λ n. (n ≡ descendants room.now.waiting id.now)
-        × (1 + n ≤ db.new.room)) }
-    ensures small { IfOk result (λ n. n < 2 ^ 63) }
-    ensures faults { IfErr result IsRoomFault }
-    ensures full { (len need : ℕ) → result ≡ Err (OfferFault.HistoryFull len need)
-        → (len ≡ length db.old.history) × (need ≡ 1 + descendants room.now.waiting id.now)
-        × (db.old.limit < len + need) }
-    ensures limited { db.old.limit < length db.old.history
-        + (1 + descendants room.now.waiting id.now) → IsErr result }
-{
-    let count = count_in(room, id)?;
-    match db.reserve(1 + count) {
-        Ok(()) => Ok(count),
+    let follow = follow_most(db, room, id)?;
+    match db.reserve(1 + follow) {
+        Ok(()) => Ok(follow),
         Err(ForkFault::Full { len }) => Err(OfferFault::HistoryFull {
             len,
-            need: 1 + count,
+            need: 1 + follow,
         }),
         Err(ForkFault::Mem) => Err(OfferFault::Mem),
     }
 }
 
-/// Admits a block and the waiting blocks that follow it, and lets those go whose numbers are at most
-/// the final tip's. It takes no memory.
+/// Admits a block, whose parent stands at a place, and the waiting blocks that follow it, and lets
+/// those go whose numbers are at most the final tip's. It takes no memory.
 pub fn admit(
     db: &mut ForkDb,
     room: &mut WaitRoom,
     drops: &mut Drops,
     slip: Slip,
     block: Option<Arc<Block>>,
+    parent: Option<usize>,
 )
     requires own { IfSome block (λ b. slip ≡ slip_of_block b.value) }
     requires can { CanStart db.old room.old slip }
+    requires parent { place_of db.old.history slip.parent_id ≡ parent }
     requires room { 1 + descendants room.old.waiting slip.id ≤ db.old.room }
     requires empty { drops.old.conflicts ≡ [] }
     requires spare { descendants room.old.waiting slip.id ≤ drops.old.spare }
@@ -123,30 +119,19 @@ pub fn admit(
     ensures limits { HasLimits db.old room.old drops.old db.new room.new drops.new }
     ensures held { is_some block ≡ true → AreHeld db.old room.old → AreHeld db.new room.new }
 {
-    let any = room.has_child(&slip.id);
-    let _ = db.append(slip, block);
-    follow(db, room, drops, any);
+    let linked = room.children(&slip.id);
+    let _ = db.append_reserved(slip, block, parent);
+    take_waiting(db, room, drops, linked);
     room.drop_through(tip_number(db));
-}
-
-/// The same as `take_waiting`, without a look at the blocks that wait where none of them can follow.
-fn follow(db: &mut ForkDb, room: &mut WaitRoom, drops: &mut Drops, any: bool)
-    requires any { any ≡ false → next_waiting db.old.history room.old.waiting ≡ None }
-    requires can { CanTake (intake_of db.old room.old drops.old) db.old.room }
-    requires spare { CanTake (intake_of db.old room.old drops.old) drops.old.spare }
-    ensures taken { intake_of db.new room.new drops.new
-        ≡ take_in (length room.old.waiting) (intake_of db.old room.old drops.old) }
-    ensures limits { HasLimits db.old room.old drops.old db.new room.new drops.new }
-    ensures held { AreHeld db.old room.old → AreHeld db.new room.new }
-{
-    if any {
-        take_waiting(db, room, drops);
-    }
 }
 
 /// Takes the waiting blocks whose parents have come, one by one, the least number first. Each is
 /// appended, or dropped where it contradicts the history. It takes no memory.
-pub fn take_waiting(db: &mut ForkDb, room: &mut WaitRoom, drops: &mut Drops)
+///
+/// `linked` says how many of them have their parents in the history: where it is none, no block
+/// that waits is looked at.
+fn take_waiting(db: &mut ForkDb, room: &mut WaitRoom, drops: &mut Drops, linked: u64)
+    requires linked { linked ≡ linked_in db.old.history room.old.waiting }
     requires can { CanTake (intake_of db.old room.old drops.old) db.old.room }
     requires spare { CanTake (intake_of db.old room.old drops.old) drops.old.spare }
     ensures taken { intake_of db.new room.new drops.new
@@ -154,18 +139,23 @@ pub fn take_waiting(db: &mut ForkDb, room: &mut WaitRoom, drops: &mut Drops)
     ensures limits { HasLimits db.old room.old drops.old db.new room.new drops.new }
     ensures held { AreHeld db.old room.old → AreHeld db.new room.new }
 {
+    let mut left = linked;
     for _ in 0..room.blocks() {
-        if !take_next(db, room, drops) {
+        if left == 0 {
             return;
         }
+        left = take_next(db, room, drops, left);
     }
 }
 
-/// Takes the next waiting block whose parent has come, where there is one.
-fn take_next(db: &mut ForkDb, room: &mut WaitRoom, drops: &mut Drops) -> bool
+/// Takes the next of the waiting blocks whose parents have come, of which there are `linked`, and
+/// says how many there are then.
+fn take_next(db: &mut ForkDb, room: &mut WaitRoom, drops: &mut Drops, linked: u64) -> u64
+    requires some { 0 < linked }
+    requires linked { linked ≡ linked_in db.old.history room.old.waiting }
     requires can { CanTake (intake_of db.old room.old drops.old) db.old.room }
     requires spare { CanTake (intake_of db.old room.old drops.old) drops.old.spare }
-    ensures some { result ≡ is_some (next_waiting db.old.history room.old.waiting) }
+    ensures linked { result ≡ linked_in db.new.history room.new.waiting }
     ensures taken { intake_of db.new room.new drops.new
         ≡ take_one (intake_of db.old room.old drops.old)
         (next_waiting db.old.history room.old.waiting) }
@@ -174,23 +164,38 @@ fn take_next(db: &mut ForkDb, room: &mut WaitRoom, drops: &mut Drops) -> bool
     ensures limits { HasLimits db.old room.old drops.old db.new room.new drops.new }
     ensures held { AreHeld db.old room.old → AreHeld db.new room.new }
 {
-    match room.take_next(&History(db)) {
-        Some((slip, block)) => {
-            place(db, drops, slip, block);
-            true
-        }
-        None => false,
+    // Fewer than 2^63 blocks wait, and no more are linked.
+    let _ = room.blocks();
+    match room.take_linked(&History(db), linked, newest_id(db)) {
+        Some((slip, block)) => linked - 1 + place(db, room, drops, slip, block),
+        None => 0,
     }
 }
 
-/// Appends a block whose parent is held, or drops it where it contradicts the history.
-fn place(db: &mut ForkDb, drops: &mut Drops, slip: Slip, block: Option<Arc<Block>>)
+/// The id of the block that came last.
+fn newest_id(db: &ForkDb) -> &Id
+    requires { 0 < length db.now.history }
+{
+    &db.slip(db.len() as usize - 1).id
+}
+
+/// Appends a block whose parent is held, or drops it where it contradicts the history, and says of
+/// how many waiting blocks the parent has come by that.
+fn place(
+    db: &mut ForkDb,
+    room: &WaitRoom,
+    drops: &mut Drops,
+    slip: Slip,
+    block: Option<Arc<Block>>,
+) -> u64
     requires own { IfSome block (λ b. slip ≡ slip_of_block b.value) }
     requires fresh { has_id db.old.history slip.id ≡ false }
     requires parent { has_id db.old.history slip.parent_id ≡ true }
     requires rises { slip.parent_num < slip.num }
     requires room { 0 < db.old.room }
     requires spare { 0 < drops.old.spare }
+    ensures linked { linked_in db.new.history room.now.waiting
+        ≡ linked_in db.old.history room.now.waiting + result }
     ensures history { db.new.history
         ≡ history_after db.old.history slip (clash db.old.history slip) }
     ensures dropped { drops.new.conflicts
@@ -204,9 +209,14 @@ fn place(db: &mut ForkDb, drops: &mut Drops, slip: Slip, block: Option<Arc<Block
 {
     let parent = db.find(&slip.parent_id).unwrap();
     match clash_with(db, parent, &slip) {
-        Some((kind, held)) => drops.drop_block(kind, db.slip(held), slip),
+        Some((kind, held)) => {
+            drops.drop_block(kind, db.slip(held), slip);
+            0
+        }
         None => {
-            let _ = db.append(slip, block);
+            let children = room.children(&slip.id);
+            let _ = db.append_reserved(slip, block, Some(parent));
+            children
         }
     }
 }

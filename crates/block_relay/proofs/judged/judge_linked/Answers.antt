@@ -6,13 +6,13 @@ use Rattle.relay_model.specs.Offers.{judge_parent}
 use Rattle.block_relay.proofs.JudgedFacts.{above_root, late_root, root_first}
 use Rattle.block_relay.proofs.judged.judge_linked.Goals as goal
 
-pub returns-then-slip : goal.returns-then-slip
-returns-then-slip c =
+pub returns-then-slip-clause-rule : goal.returns-then-slip-clause-rule
+returns-then-slip-clause-rule c =
     λ w parts. late_root w c.args.slip.now c.args.db.now.history parts.history (omega arith)
     (let root = root_first c.args.db.now.history c.slip.result.now c.slip.ensures in omega (arith, root))
 
-pub returns-in-Some : goal.returns-in-Some
-returns-in-Some c =
+pub returns-in-Some-clause-rule : goal.returns-in-Some-clause-rule
+returns-in-Some-clause-rule c =
     λ w parts.
     let s = c.args.slip.now in
     let newest = c.args.db.now.history in
@@ -20,14 +20,14 @@ returns-in-Some c =
     let high : root_num newest < s.num = omega (arith, root) in
     let q = place_slip newest s.parent_id c.in-Some.parent (sym c.find.ensures ∙ c.in-Some.is) in
     let found : find_id w.history s.parent_id ≡ Some q.0 = ap (λ l. find_id l s.parent_id) parts.history ∙ q.3 in
-    c.judge_child.ensures w parts.history ∙ ap (judge_parent w s) (sym found) ∙ above_root w s newest parts.history (omega arith) high
+    c.judge_child.ensures.rule w parts.history ∙ ap (judge_parent w s) (sym found) ∙ above_root w s newest parts.history (omega arith) high
 
-pub returns-in-None : goal.returns-in-None
-returns-in-None c =
+pub returns-in-None-clause-rule : goal.returns-in-None-clause-rule
+returns-in-None-clause-rule c =
     λ w parts.
     let s = c.args.slip.now in
     let newest = c.args.db.now.history in
     let root = root_first newest c.slip.result.now c.slip.ensures in
     let high : root_num newest < s.num = omega (arith, root) in
     let found : find_id w.history s.parent_id ≡ None = ap (λ l. find_id l s.parent_id) parts.history ∙ find_none newest s.parent_id (sym c.find.ensures ∙ c.in-None.is) in
-    c.judge_orphan.ensures w parts ∙ ap (judge_parent w s) (sym found) ∙ above_root w s newest parts.history (omega arith) high
+    c.judge_orphan.ensures.rule w parts ∙ ap (judge_parent w s) (sym found) ∙ above_root w s newest parts.history (omega arith) high

@@ -9,3 +9,6 @@ judge_linked-requires-clause-fresh c =
     let newest = c.args.db.now.history in
     let id = c.args.slip.now.id in
     (lacks_parts room newest id (none_found (room ++ newest) id (sym c.held_slip.ensures ∙ ap option_copied c.in-None.is))).1
+
+pub returns-in-Some-clause-parent : goal.returns-in-Some-clause-parent
+returns-in-Some-clause-parent c = c.judge_same.ensures.parent c.args.db.now.history

@@ -1,6 +1,7 @@
-use Rattle.std.proofs.Common.{arith, ◌≡◌, ◌≤◌, ◌+◌, ◌-◌, ◌++◌, List, length, reverse, replicate, cond, ap, sym, ◌∙◌, subst, refl}
-use Rattle.std.proofs.lemmas.List.{length-append, length-reverse}
+use Rattle.std.proofs.Common.{arith, ◌≡◌, ◌≤◌, ◌+◌, ◌-◌, ◌++◌, List, length, reverse, replicate, ap, sym, ◌∙◌, subst, refl}
+use Rattle.std.proofs.lemmas.List.{length-append}
 use Rattle.block_record.specs.declared.blocks.Slip.{Slip}
+use Rattle.block_tree.specs.Places.{place_of}
 use Rattle.relay_model.specs.Chronicles.{Opened}
 use Rattle.relay_model.specs.Offers.{Takes, judge, judge_limit}
 use Rattle.block_relay.specs.declared.marks.Mark.TheVariants as mark
@@ -31,6 +32,18 @@ pub overflow_sub-count : goal.overflow_sub-count
 overflow_sub-count c =
     let b = brings c.make_room.new.db.history c.self.inside.room.waiting c.args.slip in
     omega (arith, c.len-from.ensures.len, c.len.ensures.len, ap length c.make_room.ensures.history, ap length c.admit.ensures.history, ap length b.1, length-append b.0 c.make_room.new.db.history)
+
+pub admit-requires-clause-parent : goal.admit-requires-clause-parent
+admit-requires-clause-parent c =
+    ap (λ (l : List Slip). place_of l c.args.slip.parent_id) (c.make_room.ensures.history ∙ sym c.self.invariant.0.parts.history ∙ ap (λ (v : Told). (world_told v).history) c.self.view_is)
+    ∙ c.requires.parent
+
+pub admit-requires-clause-empty : goal.admit-requires-clause-empty
+admit-requires-clause-empty c = c.reserve.ensures.conflicts ∙ c.self.invariant.4
+
+pub finish-dropped-requires : goal.finish-dropped-requires
+finish-dropped-requires c =
+    omega (arith, c.admit.ensures.limits.conflicts, ap length (c.reserve.ensures.conflicts ∙ c.self.invariant.4), c.in_ok-reserve.ensures.spare, c.in_ok-reserve_admitted.ensures.ok.1)
 
 pub mark_admitted-requires : goal.mark_admitted-requires
 mark_admitted-requires c =
@@ -65,18 +78,16 @@ invariant_of-self-2 c =
     c.mark_admitted.ensures.items ∙ ap (λ l. l ++ replicate n mark.Admitted) (c.keep_root_kind.ensures.items ∙ ap (λ l. l ++ kind_mark root) c.reserve_admitted.ensures.marks) in
     let entries = entries_after opening w h c.admit.new.db.history t.room.waiting waited t.kind root c.keep_root_kind.new.kept s b.0 t.marks.items c.mark_admitted.new.marks.items n k.parts.history k.parts.waiting k.kind b.1 is len
     c.keep_root_kind.ensures.kept marks (c.in_ok-root_kind.ensures.added h c.len-from.ensures.len) c.in_ok-root_kind.ensures.first c.self.invariant.2 in
-    let fits : length c.finish-dropped.result.noted.items ≤ c.in_ok-follow.follow =
-    omega (arith, sym (length-reverse c.finish-dropped.result.noted.items), ap length c.finish-dropped.ensures.noted, c.admit.ensures.limits.conflicts, ap length c.in_ok-drops.ensures.conflicts, c.in_ok-drops.ensures.spare) in
-    let all : c.append.new.self.items ≡ t.conflicts.items ++ c.finish-dropped.result.noted.items =
-    c.append.ensures.items ∙ ap (λ x. cond x (c.reserve_admitted.new.conflicts.items ++ c.finish-dropped.result.noted.items) c.reserve_admitted.new.conflicts.items) (c.append.ensures.succeeds (omega (arith, fits, c.in_ok-reserve_admitted.ensures.ok.1)))
-    ∙ ap (λ l. l ++ c.finish-dropped.result.noted.items) c.reserve_admitted.ensures.conflicts in
-    let dropped = c.finish-dropped.ensures.noted ∙ c.admit.ensures.dropped ∙ ap (λ (l : List Slip). (intake_from l t.room.waiting s).dropped) c.make_room.ensures.history in
-    let conflicts = conflicts_after t.conflicts.items c.finish-dropped.result.noted.items c.append.new.self.items _ all dropped in
+    let all : c.finish-dropped.new.noted.items ≡ t.conflicts.items ++ c.finish-dropped.result.items =
+    c.finish-dropped.ensures.noted ∙ ap (λ l. l ++ c.finish-dropped.result.items) c.reserve_admitted.ensures.conflicts in
+    let dropped = c.finish-dropped.ensures.told ∙ c.admit.ensures.dropped ∙ ap (λ (l : List Slip). (intake_from l t.room.waiting s).dropped) c.make_room.ensures.history in
+    let conflicts = conflicts_after t.conflicts.items c.finish-dropped.result.items c.finish-dropped.new.noted.items _ all dropped in
     let kind = c.keep_root_kind.ensures.kept ∙ c.in_ok-root_kind.ensures.kind c.make_room.new.db.history (c.len-from.ensures.len ∙ sym (ap length c.make_room.ensures.history)) in (
       kept_as _ _ _ _ _ _ _ _ _ _ _ entries (conflicts ∙ clashes_same w h t.room.waiting s k.parts.history k.parts.waiting) kind done,
       λ _. omega (arith, brings_most w s t.db t.room k.parts k.sound, ap length is, c.len-from.ensures.len, c.len.ensures.len, c.in_ok-follow.ensures.ok.0, c.mark_admitted.ensures.len, c.mark_admitted.ensures.capacity, c.keep_root_kind.ensures.len, c.keep_root_kind.ensures.capacity, c.in_ok-reserve_admitted.ensures.ok.0),
       λ e. ap (λ l. has_kind_mark (reverse l)) marks ∙ ap has_kind_mark (marks_reverse t.marks.items root n) ∙ admission_kind t.kind root (reverse t.marks.items) n c.self.invariant.2 (sym c.keep_root_kind.ensures.kept ∙ e),
       λ p. c.admit.ensures.held (c.requires.payloads (ap (λ (v : Told). v.payloads) (sym c.self.view_is) ∙ p)) (let h = c.self.invariant.3 p in record { history = rw c.make_room.ensures.held h.history; waiting = h.waiting }),
+      c.finish-dropped.ensures.conflicts,
     )
 
 pub returns : goal.returns
@@ -101,16 +112,12 @@ returns c =
     c.mark_admitted.ensures.items ∙ ap (λ l. l ++ replicate n mark.Admitted) (c.keep_root_kind.ensures.items ∙ ap (λ l. l ++ kind_mark root) c.reserve_admitted.ensures.marks) in
     let entries = entries_after opening w h c.admit.new.db.history t.room.waiting waited t.kind root c.keep_root_kind.new.kept s b.0 t.marks.items c.mark_admitted.new.marks.items n k.parts.history k.parts.waiting k.kind b.1 is len
     c.keep_root_kind.ensures.kept marks (c.in_ok-root_kind.ensures.added h c.len-from.ensures.len) c.in_ok-root_kind.ensures.first c.self.invariant.2 in
-    let fits : length c.finish-dropped.result.noted.items ≤ c.in_ok-follow.follow =
-    omega (arith, sym (length-reverse c.finish-dropped.result.noted.items), ap length c.finish-dropped.ensures.noted, c.admit.ensures.limits.conflicts, ap length c.in_ok-drops.ensures.conflicts, c.in_ok-drops.ensures.spare) in
-    let all : c.append.new.self.items ≡ t.conflicts.items ++ c.finish-dropped.result.noted.items =
-    c.append.ensures.items ∙ ap (λ x. cond x (c.reserve_admitted.new.conflicts.items ++ c.finish-dropped.result.noted.items) c.reserve_admitted.new.conflicts.items) (c.append.ensures.succeeds (omega (arith, fits, c.in_ok-reserve_admitted.ensures.ok.1)))
-    ∙ ap (λ l. l ++ c.finish-dropped.result.noted.items) c.reserve_admitted.ensures.conflicts in
-    let dropped = c.finish-dropped.ensures.noted ∙ c.admit.ensures.dropped ∙ ap (λ (l : List Slip). (intake_from l t.room.waiting s).dropped) c.make_room.ensures.history in
-    let conflicts = conflicts_after t.conflicts.items c.finish-dropped.result.noted.items c.append.new.self.items _ all dropped in
+    let all : c.finish-dropped.new.noted.items ≡ t.conflicts.items ++ c.finish-dropped.result.items =
+    c.finish-dropped.ensures.noted ∙ ap (λ l. l ++ c.finish-dropped.result.items) c.reserve_admitted.ensures.conflicts in
+    let dropped = c.finish-dropped.ensures.told ∙ c.admit.ensures.dropped ∙ ap (λ (l : List Slip). (intake_from l t.room.waiting s).dropped) c.make_room.ensures.history in
+    let conflicts = conflicts_after t.conflicts.items c.finish-dropped.result.items c.finish-dropped.new.noted.items _ all dropped in
     let told : Told = record { entries = es; conflicts = cs; payloads = t.payloads } in
     let from : c.len-from.result ≡ length h = c.len-from.ensures.len in
-    let taken = ap reverse c.take_told-told.ensures ∙ c.finish-dropped.ensures.told in
     let clashes = c.admit.ensures.dropped ∙ ap (λ (l : List Slip). (intake_from l t.room.waiting s).dropped) c.make_room.ensures.history in
-    let said = said_after w h t.room.waiting s c.len-from.result n c.admit.new.db.history c.take_told-told.result.items _ k.parts.history k.parts.waiting is from len taken clashes in
+    let said = said_after w h t.room.waiting s c.len-from.result n c.admit.new.db.history c.finish-dropped.result.items _ k.parts.history k.parts.waiting is from len c.finish-dropped.ensures.told clashes in
     changed s told _ _ Takes _ c.self.view_is takes said refl entries (conflicts ∙ clashes_same w h t.room.waiting s k.parts.history k.parts.waiting) refl

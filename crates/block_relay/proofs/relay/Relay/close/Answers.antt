@@ -16,4 +16,5 @@ invariant_of-self c =
       λ (e : true ≡ false). absurd (grind arith),
       λ e. ap has_kind_mark pushed ∙ c.self.invariant.2 e,
       c.self.invariant.3,
+      c.self.invariant.4,
     )

@@ -19,6 +19,7 @@ invariant_of-self-2 c =
       λ _. omega (arith, c.in_ok-reserve.ensures.ok, c.push_reserved.ensures.len, c.push_reserved.ensures.capacity),
       λ e. absurd (grind (arith, e)),
       c.self.invariant.3,
+      c.self.invariant.4,
     )
 
 pub returns-clause-ok : goal.returns-clause-ok

@@ -36,4 +36,5 @@ invariant_of-self-2 c =
       λ _. omega (arith, c.in_ok-reserve_waiting.ensures.ok.1, c.push_reserved-2.ensures.len, c.push_reserved-2.ensures.capacity),
       λ e. ap has_kind_mark ms ∙ c.self.invariant.2 e,
       λ p. let h = c.self.invariant.3 p in record { history = h.history; waiting = c.in_ok-put.ensures.kept h.waiting (c.requires.payloads (ap (λ (v : Told). v.payloads) (sym c.self.view_is) ∙ p)) },
+      c.self.invariant.4,
     )

@@ -9,7 +9,7 @@ use Rattle.block_relay.proofs.relay.Relay.take.Goals as goal
 pub returns-in_ok-held-in-Clashes : goal.returns-in_ok-held-in-Clashes
 returns-in_ok-held-in-Clashes c =
     let w = world_told c.args.self.now in
-    let rule : Clashes (conflict c.in-Clashes.kind c.in-Clashes.held.now c.args.slip) ≡ judge w c.args.slip = sym (ap (verdict_of_judged w c.args.slip) c.in-Clashes.is) ∙ c.judge.ensures in
+    let rule : Clashes (conflict c.in-Clashes.kind c.in-Clashes.held.now c.args.slip) ≡ judge w c.args.slip = sym (ap (verdict_of_judged w c.args.slip) c.in-Clashes.is) ∙ c.judge.ensures.rule in
     let held : Clashes (conflict c.in-Clashes.kind c.in_ok-held-in-Clashes.held c.args.slip) ≡ judge w c.args.slip =
     ap (λ (h : Slip). Clashes (conflict c.in-Clashes.kind h c.args.slip)) c.in_ok-held-in-Clashes.ensures ∙ rule in
     subst (λ (v : Verdict). IsDone v c.args.slip c.args.self.now c.refuse.new.self c.refuse.result) held c.refuse.ensures
