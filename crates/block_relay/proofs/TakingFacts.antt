@@ -5,7 +5,7 @@ use Rattle.std.specs.Option.{option_map}
 use Rattle.block_record.specs.declared.blocks.Block.{Block}
 use Rattle.block_record.specs.declared.blocks.Slip.{Slip}
 use Rattle.relay_model.specs.declared.answers.Conflict.{Conflict as Clash}
-use Rattle.relay_model.specs.Worlds.{descendants, descends, least, next_waiting, without}
+use Rattle.relay_model.specs.Worlds.{descendants, descends, next_waiting, without}
 use Rattle.relay_model.specs.Offers.{Intake, clash, take_judged, take_one}
 use Rattle.chain_model.specs.Ancestry.{has_id}
 use Rattle.chain_model.specs.Finality.{root_num}
