@@ -13,7 +13,7 @@ use Rattle.relay_model.specs.Soundness.{IsBlock, IsSound}
 use Rattle.relay_model.specs.Offers.{Intake, intake, kind_after, purged, Verdict, Shut, Repeats, Clashes, TooEarly, Late, NoRoom, Waits, Passes, Takes, clash, judge, judge_clash, judge_held, judge_linked, judge_parent, offered, tip_num, world_by}
 use Rattle.relay_model.proofs.Entries.{offer_adds}
 use Rattle.relay_model.proofs.Judged.{judged_waits, limit_takes}
-use Rattle.relay_model.proofs.Sound.{keeps_by, new_parts, none_found}
+use Rattle.relay_model.proofs.Sound.{keeps_by, new_parts, none_found, same_sound}
 use Rattle.chain_model.specs.Ancestry.{find_id, has_id}
 use Rattle.chain_model.specs.Finality.{root_num}
 use Rattle.fork_db.specs.Forks.{Forks}
@@ -32,18 +32,6 @@ told es cs = record { entries = es; conflicts = cs; payloads = payloads.Kept }
 pub marks_push : (ms : List Mark) (m : Mark) → reverse (ms ++ m ∷ []) ≡ m ∷ reverse ms
 marks_push ms m = reverse-append ms (m ∷ [])
 
--- soundness speaks of the history and of the waiting blocks alone
-pub same_parts : (w v : World) → w.history ≡ v.history → w.waiting ≡ v.waiting → IsSound w → IsSound v
-same_parts w v h r sound = record {
-  history = rw (← h) sound.history;
-  agreed = rw (← h) sound.agreed;
-  distinct = rw (← r) sound.distinct;
-  apart = rw (← h, ← r) sound.apart;
-  orphans = rw (← h, ← r) sound.orphans;
-  above = rw (← h, ← r) sound.above;
-  rises = rw (← r) sound.rises;
-}
-
 -- the relay is closed
 pub closes : (es : List Entry) (cs : List Clash) (db : Forks) (room : Room) (kept : Option NodeKind) (shut : Bool) (first run : ℕ) → IsKept (world_told (told es cs)) db room kept shut first run
     → IsKept (world_told (told (Closed ∷ es) cs)) db room kept true first run
@@ -54,7 +42,7 @@ closes es cs db room kept shut first run k = record {
   first_is = k.first_is;
   run_is = k.run_is;
   limit = k.limit;
-  sound = same_parts (world_told (told es cs)) (world_told (told (Closed ∷ es) cs)) refl refl k.sound;
+  sound = same_sound (world_told (told es cs)) (world_told (told (Closed ∷ es) cs)) refl refl (λ none. none) refl k.sound;
 }
 
 -- a conflict is noted
@@ -67,7 +55,7 @@ notes es cs c db room kept shut first run k = record {
   first_is = k.first_is;
   run_is = k.run_is;
   limit = k.limit;
-  sound = same_parts (world_told (told es cs)) (world_told (told es (c ∷ cs))) refl refl k.sound;
+  sound = same_sound (world_told (told es cs)) (world_told (told es (c ∷ cs))) refl refl (λ none. none) refl k.sound;
 }
 
 -- a block that has to wait has room
@@ -134,7 +122,7 @@ waits es cs db room kept shut first run s b k e block =
       first_is = k.first_is;
       run_is = k.run_is;
       limit = k.limit;
-      sound = same_parts (world_by w s Waits) v refl (sym more) (keeps_by w s k.sound block Waits e);
+      sound = same_sound (world_by w s Waits) v refl (sym more) (λ none. none) refl (keeps_by w s k.sound block Waits e);
     }
 
 pub slips_push : (xs : List Slip) (s : Slip) → reverse (xs ++ s ∷ []) ≡ s ∷ reverse xs
@@ -161,7 +149,7 @@ keeps_kind es cs db room kept shut first run k is = record {
   first_is = is.first_is;
   run_is = is.run_is;
   limit = is.limit;
-  sound = same_parts (world_told (told es cs)) (world_told (told (Kind k ∷ es) cs)) refl refl is.sound;
+  sound = same_sound (world_told (told es cs)) (world_told (told (Kind k ∷ es) cs)) refl refl (λ none. absurd (grind (arith, none))) refl is.sound;
 }
 
 -- a world with other conflicts
@@ -198,7 +186,7 @@ told_offered es cs s sound block =
     let w = world_of es in
     let left = (offered (world_told (told es cs)) s).world.conflicts in
     ap (λ l. world_told (told (l ++ es) left)) (added_same w cs s (judge w s))
-    ∙ ap (λ v. with_conflicts v left) (offer_adds es s (same_parts (world_told (told es cs)) w refl refl sound) block)
+    ∙ ap (λ v. with_conflicts v left) (offer_adds es s (same_sound (world_told (told es cs)) w refl refl (λ none. none) refl sound) block)
     ∙ left_same w cs s (judge w s)
 
 -- a row of one mark, turned over

@@ -14,6 +14,7 @@ ghost use Rattle.relay_model.specs.Looks.{looked};
 ghost use Rattle.relay_model.specs.Chronicles.{Kind as KindEntry, Opened, added, kind_added};
 ghost use Rattle.relay_model.specs.Offers.{Clashes, Waits, conflict, judge as judge_in, judge_limit, kind_after, offered};
 ghost use Rattle.relay_model.specs.Soundness.{IsBlock, IsSound};
+ghost use Rattle.relay_model.specs.Worlds.{usual_size};
 ghost use Rattle.block_relay.specs.Chronicle.{closed_entries, greeted, kind_entry, kind_mark, limits_told, may_greet, world_told};
 ghost use Rattle.block_relay.specs.Answers.{IsAnswer, is_mem};
 ghost use Rattle.block_relay.specs.Done.{IsDone};
@@ -62,6 +63,7 @@ pub struct Relay {
 impl Model for Relay {
     ghost use Rattle.std.specs.Prelude.{◌≡◌, ◌<◌, [], reverse, vec_len, vec_capacity, false, None};
     ghost use Rattle.relay_model.specs.Chronicles.{Opened};
+    ghost use Rattle.relay_model.specs.Worlds.{usual_size};
     ghost use Rattle.block_relay.specs.Chronicle.{IsKept, Told, entries_by, has_kind_mark, limits_told, world_told};
     ghost use Rattle.block_relay.specs.Taking.{AreHeld};
     ghost use Rattle.block_relay.specs.declared.payloads.Payloads.TheVariants.{Kept};
@@ -69,13 +71,13 @@ impl Model for Relay {
     ghost Value = { Told };
 
     ghost view = { λ t. record {
-      entries = entries_by (Opened t.first t.run (limits_told t.limits)) t.kind (reverse t.marks.items) t.db.history (reverse t.waited.items);
+      entries = entries_by (Opened t.first t.run (limits_told t.limits) usual_size) t.kind (reverse t.marks.items) t.db.history (reverse t.waited.items);
       conflicts = reverse t.conflicts.items;
       payloads = t.payloads;
     } };
 
     ghost invariant = { λ t. IsKept (world_told (record {
-      entries = entries_by (Opened t.first t.run (limits_told t.limits)) t.kind (reverse t.marks.items) t.db.history (reverse t.waited.items);
+      entries = entries_by (Opened t.first t.run (limits_told t.limits) usual_size) t.kind (reverse t.marks.items) t.db.history (reverse t.waited.items);
       conflicts = reverse t.conflicts.items;
       payloads = t.payloads;
     })) t.db t.room t.kind t.closed t.first t.run
@@ -94,7 +96,7 @@ impl Relay {
         limits: Limits,
         payloads: Payloads,
     ) -> Result<Relay, AllocError>
-        ensures entries { IfOk result (λ r. r.entries ≡ Opened first run (limits_told limits) ∷ []) }
+        ensures entries { IfOk result (λ r. r.entries ≡ Opened first run (limits_told limits) usual_size ∷ []) }
         ensures conflicts { IfOk result (λ r. r.conflicts ≡ []) }
         ensures payloads { IfOk result (λ r. r.payloads ≡ payloads) }
     {

@@ -18,7 +18,7 @@ use Rattle.relay_model.specs.Soundness.{IsBlock}
 use Rattle.relay_model.specs.Soundness.{IsDistinct}
 use Rattle.relay_model.proofs.Admits.{found_cases}
 use Rattle.relay_model.proofs.Intakes.{find_of}
-use Rattle.relay_model.proofs.Sound.{keeps_by}
+use Rattle.relay_model.proofs.Sound.{empty_sound, keeps_by}
 use Rattle.relay_laws.proofs.RunFacts.{IsStep, IsRun, same_slip_is, same_slip_refl, run_step}
 
 once_has : (xs : List Slip) (s : Slip) → IsFound (once xs) s → list_any (same_slip s) xs ≡ true
@@ -146,7 +146,7 @@ empty_both (x ∷ xs) ys e = absurd (grind (arith, e))
 pub run_of : (first number : ℕ) (limits : Limits) (offers : List Slip) → AllByRecursion IsBlock offers → dropped (empty_world first number limits) offers ≡ []
     → OneEach (once (taken (empty_world first number limits) offers)) → IsRun (run (empty_world first number limits) offers) (once (taken (empty_world first number limits) offers))
 run_of first number limits [] blocks none one = record {
-  sound = record { history = tt; agreed = λ a b x y fa. absurd (nothing a fa); distinct = tt; apart = tt; orphans = tt; above = tt; rises = tt };
+  sound = empty_sound first number limits;
   in_history = λ x f. absurd (nothing x f);
   in_waiting = λ x f. absurd (nothing x f);
   rest = λ x f. absurd (nothing x f);

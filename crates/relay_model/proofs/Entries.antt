@@ -17,14 +17,14 @@ use Rattle.relay_model.specs.declared.answers.Conflict.{Conflict as Clash}
 use Rattle.relay_model.specs.Worlds.{World, next_waiting, without}
 use Rattle.relay_model.specs.Offers.{Verdict, Shut, Repeats, Clashes, TooEarly, Late, NoRoom, Waits, Passes, Takes, Intake, intake, take_one, take_judged, take_in, clash, purged, tip_num, num_of, judge, world_by, kind_after}
 use Rattle.relay_model.specs.Soundness.{IsBlock}
-use Rattle.relay_model.specs.Chronicles.{Entry, Admitted, first_of, run_of, limits_of, kind_of, history_of, waited_of, stored_of, closed_of, still_waits, waiting_of, world_of, kind_added, added_by}
+use Rattle.relay_model.specs.Chronicles.{Entry, Admitted, first_of, run_of, limits_of, size_of, kind_of, history_of, waited_of, stored_of, closed_of, still_waits, waiting_of, world_of, kind_added, added_by}
 use Rattle.relay_model.specs.Soundness.{IsDistinct, IsSound}
 use Rattle.relay_model.specs.Laws.{OfferAdds}
 use Rattle.chain_laws.proofs.Roots.{has_tip}
 use Rattle.chain_laws.proofs.Tips.{tip_most}
 use Rattle.relay_model.proofs.Intakes.{IsTaken, next_is, IsTaking, keeps_one, grows_one, taking_grows}
 use Rattle.relay_model.proofs.Judged.{judged_waits, judged_takes}
-use Rattle.relay_model.proofs.Sound.{none_found, lacks_each, first_intake, starts, begins_taking, ends_taking}
+use Rattle.relay_model.proofs.Sound.{none_found, lacks_each, first_intake, starts, begins_taking, ends_taking, intake_grows}
 
 -- each block of a list without an id twice is found
 pub distinct_found : (xs : List Slip) → IsDistinct xs → AllByRecursion (λ x. find_id xs x.id ≡ Some x) xs
@@ -144,6 +144,10 @@ adm_limits : (xs : List Slip) (es : List Entry) → limits_of (adm xs es) ≡ li
 adm_limits [] es = refl
 adm_limits (x ∷ xs) es = adm_limits xs es
 
+adm_size : (xs : List Slip) (es : List Entry) → size_of (adm xs es) ≡ size_of es
+adm_size [] es = refl
+adm_size (x ∷ xs) es = adm_size xs es
+
 adm_kind : (xs : List Slip) (es : List Entry) → kind_of (adm xs es) ≡ kind_of es
 adm_kind [] es = refl
 adm_kind (x ∷ xs) es = adm_kind xs es
@@ -157,6 +161,7 @@ record SameButKind (a b : List Entry) (k : Option Kind) : Type 0 where
   first : first_of a ≡ first_of b
   run : run_of a ≡ run_of b
   limits : limits_of a ≡ limits_of b
+  size : size_of a ≡ size_of b
   kind : kind_of a ≡ k
   history : history_of a ≡ history_of b
   waited : waited_of a ≡ waited_of b
@@ -164,9 +169,9 @@ record SameButKind (a b : List Entry) (k : Option Kind) : Type 0 where
   closed : closed_of a ≡ closed_of b
 
 with_kind : (k : Option Kind) (h : List Slip) (es : List Entry) → kind_of es ≡ k → SameButKind (kind_added k h ++ es) es (kind_after k h)
-with_kind None [] es e = record { first = refl; run = refl; limits = refl; kind = refl; history = refl; waited = refl; stored = refl; closed = refl }
-with_kind None (s ∷ older) es e = record { first = refl; run = refl; limits = refl; kind = e; history = refl; waited = refl; stored = refl; closed = refl }
-with_kind (Some k) h es e = record { first = refl; run = refl; limits = refl; kind = e; history = refl; waited = refl; stored = refl; closed = refl }
+with_kind None [] es e = record { first = refl; run = refl; limits = refl; size = refl; kind = refl; history = refl; waited = refl; stored = refl; closed = refl }
+with_kind None (s ∷ older) es e = record { first = refl; run = refl; limits = refl; size = refl; kind = e; history = refl; waited = refl; stored = refl; closed = refl }
+with_kind (Some k) h es e = record { first = refl; run = refl; limits = refl; size = refl; kind = e; history = refl; waited = refl; stored = refl; closed = refl }
 
 take_front : (xs ys all : List Slip) → xs ++ ys ≡ all → take (length all - length ys) all ≡ xs
 take_front xs ys all e = subst (λ (l : List Slip). take (length l - length ys) l ≡ xs) e (front (length (xs ++ ys) - length ys) (omega (arith, length-append xs ys)))
@@ -178,9 +183,9 @@ take_front xs ys all e = subst (λ (l : List Slip). take (length l - length ys) 
         go [] = refl
         go (z ∷ zs) = ap (λ l. z ∷ l) (go zs)
 
-world_same : (a b : World) → a.first ≡ b.first → a.run ≡ b.run → a.limits ≡ b.limits → a.kind ≡ b.kind → a.history ≡ b.history → a.waiting ≡ b.waiting → a.stored ≡ b.stored → a.conflicts ≡ b.conflicts → a.closed ≡ b.closed → a ≡ b
-world_same a b e1 e2 e3 e4 e5 e6 e7 e8 e9 =
-    let y : record { first = a.first; run = a.run; limits = a.limits; kind = a.kind; history = a.history; waiting = a.waiting; stored = a.stored; conflicts = a.conflicts; closed = a.closed } ≡ b = rw (e1, e2, e3, e4, e5, e6, e7, e8, e9) refl in
+world_same : (a b : World) → a.first ≡ b.first → a.run ≡ b.run → a.limits ≡ b.limits → a.size ≡ b.size → a.kind ≡ b.kind → a.history ≡ b.history → a.waiting ≡ b.waiting → a.stored ≡ b.stored → a.conflicts ≡ b.conflicts → a.closed ≡ b.closed → a ≡ b
+world_same a b e1 e2 e3 e4 e5 e6 e7 e8 e9 e10 =
+    let y : record { first = a.first; run = a.run; limits = a.limits; size = a.size; kind = a.kind; history = a.history; waiting = a.waiting; stored = a.stored; conflicts = a.conflicts; closed = a.closed } ≡ b = rw (e1, e2, e3, e4, e5, e6, e7, e8, e9, e10) refl in
     y
 
 has_parent_fails : (newest : List Slip) (x : Slip) → has_id newest x.parent_id ≡ true → still_waits newest x ≡ false
@@ -214,7 +219,7 @@ adds_takes es s sound block e =
     let begun = first_intake w s in
     let facts = judged_takes w s e in
     let t = begins_taking w s sound block facts in
-    let grown : IsSuffix w.history d.history = IsSuffix-trans (s ∷ [], refl) (taking_grows (length w.waiting) begun) in
+    let grown = intake_grows w s in
     let more = grown.0 in
     let new : take (length d.history - length w.history) d.history ≡ more = take_front more w.history d.history grown.1 in
     let k = with_kind (kind_of es) (history_of es) es refl in
@@ -234,6 +239,7 @@ adds_takes es s sound block e =
     (ap first_of entries ∙ adm_first more rest ∙ k.first)
     (ap run_of entries ∙ adm_run more rest ∙ k.run)
     (ap limits_of entries ∙ adm_limits more rest ∙ k.limits)
+    (ap size_of entries ∙ adm_size more rest ∙ k.size)
     (ap kind_of entries ∙ adm_kind more rest ∙ k.kind)
     (ap history_of entries ∙ h)
     (ap waiting_of entries ∙ both_waiting (history_of (adm more rest)) (waited_of (adm more rest)) d.history (waited_of es) h (adm_waited more rest ∙ k.waited) ∙ room)
@@ -257,7 +263,7 @@ adds_by es s sound block Waits e =
     let parent : has_id (history_of es) s.parent_id ≡ false = none_found (history_of es) s.parent_id facts.orphan in
     let above : ltb (tip_num (history_of es)) s.num ≡ true = lt-ltb _ _ facts.above in
     let waits : still_waits (history_of es) s ≡ true = both (has_id (history_of es) s.parent_id) (ltb (tip_num (history_of es)) s.num) parent above in
-    world_same _ _ refl refl refl refl refl (ap (λ b. cond b (s ∷ waiting_of es) (waiting_of es)) waits) refl refl refl
+    world_same _ _ refl refl refl refl refl refl (ap (λ b. cond b (s ∷ waiting_of es) (waiting_of es)) waits) refl refl refl
   where
     both : (a b : Bool) → a ≡ false → b ≡ true → (not a && b) ≡ true
     both a b x y = rw (x, y) refl

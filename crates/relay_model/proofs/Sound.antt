@@ -1,16 +1,19 @@
 -- Why a world stays sound.
-use Rattle.std.proofs.Common.{arith, ◌≡◌, ◌<◌, inl, inr, ℕ, false, ltb, ◌&&◌, List, [], ◌∷◌, ◌++◌, length, None, refl, sym, subst}
+use Rattle.std.proofs.Common.{arith, ◌≡◌, ◌<◌, ◌+◌, inl, inr, ℕ, false, ltb, ◌&&◌, List, [], ◌∷◌, ◌++◌, length, Option, Some, None, refl, sym, ◌∙◌, ap, subst}
 use Rattle.std.specs.List.{AllByRecursion}
 use Rattle.std.proofs.lemmas.Bool.{and_parts, cases_Bool, or_cases, or_parts, both_ways, false_from_ne_true, ltb-true, eqb-true}
 use Rattle.std.proofs.Math.Dec.{eqb}
+use Rattle.std.proofs.lemmas.List.{length-append}
 use mathlib.Core.List.{IsSuffix, IsSuffix-trans}
 use Rattle.block_record.specs.declared.blocks.Slip.{Slip}
+use Rattle.block_record.specs.declared.blocks.Kind.{Kind}
 use Rattle.block_record.specs.Ids.{same_id, same_id_refl, same_id-true}
 use Rattle.chain_model.specs.Ancestry.{find_id, has_id, IsHistory}
 use Rattle.chain_model.specs.Finality.{root_num}
-use Rattle.chain_laws.proofs.Growth.{all_weaker}
-use Rattle.relay_model.specs.Worlds.{World}
-use Rattle.relay_model.specs.Offers.{Verdict, Shut, Repeats, Clashes, TooEarly, Late, NoRoom, Waits, Passes, Takes, Intake, intake, admitted, purged, tip_num, judge, world_by}
+use Rattle.chain_laws.proofs.Growth.{IsFound, all_weaker}
+use Rattle.relay_model.specs.Worlds.{World, Limits}
+use Rattle.relay_model.specs.Runs.{empty_world}
+use Rattle.relay_model.specs.Offers.{Verdict, Shut, Repeats, Clashes, TooEarly, Late, NoRoom, Waits, Passes, Takes, Intake, intake, admitted, kind_after, purged, tip_num, judge, world_by}
 use Rattle.relay_model.specs.Soundness.{IsBlock}
 use Rattle.relay_model.specs.Soundness.{IsDistinct, IsSound}
 use Rattle.relay_model.specs.Laws.{OfferKeeps, OfferGrows}
@@ -87,10 +90,25 @@ pub ends_taking : (w : World) (s : Slip) → AllByRecursion (λ t. has_id (intak
 ends_taking w s =
     none_next (intake w s).history (intake w s).waiting (all_taken (length w.waiting) (record { history = s ∷ w.history; waiting = w.waiting; dropped = [] }) (omega arith))
 
-sound_after : (w : World) (d : Intake) → IsTaking d → AllByRecursion (λ t. has_id d.history t.parent_id ≡ false) d.waiting → IsSound (admitted w d)
-sound_after w d t none = record {
+-- after an admission a kind is kept
+has_kind : (kept : Option Kind) (newest : List Slip) → (kept ≡ None → newest ≡ []) → kind_after kept newest ≡ None → ⊥
+has_kind (Some k) newest kind e = cc
+has_kind None [] kind e = cc
+has_kind None (s ∷ older) kind e = let empty = kind refl in cc
+
+-- stored places stay in a longer history
+pub stored_longer : (older newest : List Slip) (stored : List ℕ) → IsSuffix older newest
+    → AllByRecursion (λ at. at < length older) stored → AllByRecursion (λ at. at < length newest) stored
+stored_longer older newest stored grown all =
+    let len : length newest ≡ length grown.0 + length older = ap length (sym grown.1) ∙ length-append grown.0 older in
+    all_weaker (λ at. at < length older) (λ at. at < length newest) (λ at low. omega (arith, low, len)) stored all
+
+sound_after : (w : World) (d : Intake) → IsSound w → IsSuffix w.history d.history → IsTaking d → AllByRecursion (λ t. has_id d.history t.parent_id ≡ false) d.waiting → IsSound (admitted w d)
+sound_after w d sound grown t none = record {
   history = t.history;
   agreed = t.agreed;
+  kind = λ e. absurd (has_kind w.kind w.history sound.kind e);
+  stored = stored_longer w.history d.history w.stored grown sound.stored;
   distinct = distinct_filter _ d.waiting t.distinct;
   apart = all_filter _ _ d.waiting t.apart;
   orphans = all_filter _ _ d.waiting none;
@@ -98,10 +116,13 @@ sound_after w d t none = record {
   rises = all_filter _ _ d.waiting t.rises;
 }
 
-same_sound : (w v : World) → w.history ≡ v.history → w.waiting ≡ v.waiting → IsSound w → IsSound v
-same_sound w v h r sound = record {
+-- soundness hangs on the history, what waits, the kind and the stored places alone; a kind may come
+pub same_sound : (w v : World) → w.history ≡ v.history → w.waiting ≡ v.waiting → (v.kind ≡ None → w.kind ≡ None) → w.stored ≡ v.stored → IsSound w → IsSound v
+same_sound w v h r k st sound = record {
   history = subst IsHistory h sound.history;
   agreed = rw (← h) sound.agreed;
+  kind = λ e. sym h ∙ sound.kind (k e);
+  stored = rw (← h, ← st) sound.stored;
   distinct = subst IsDistinct r sound.distinct;
   apart = rw (← h, ← r) sound.apart;
   orphans = rw (← h, ← r) sound.orphans;
@@ -109,10 +130,31 @@ same_sound w v h r sound = record {
   rises = rw (← r) sound.rises;
 }
 
+-- all that an admission takes in goes on with the history
+pub intake_grows : (w : World) (s : Slip) → IsSuffix w.history (intake w s).history
+intake_grows w s = IsSuffix-trans (s ∷ [], refl) (taking_grows (length w.waiting) (first_intake w s))
+
+-- a world in which nothing came yet is sound
+pub empty_sound : (first run : ℕ) (limits : Limits) → IsSound (empty_world first run limits)
+empty_sound first run limits = record {
+  history = tt;
+  agreed = λ a b x y fa. absurd (nothing a fa);
+  kind = λ e. refl;
+  stored = tt;
+  distinct = tt;
+  apart = tt;
+  orphans = tt;
+  above = tt;
+  rises = tt;
+}
+  where
+    nothing : (s : Slip) → IsFound [] s → ⊥
+    nothing s f = grind (arith, f)
+
 pub keeps_by : (w : World) (s : Slip) → IsSound w → IsBlock s → (v : Verdict) → judge w s ≡ v → IsSound (world_by w s v)
 keeps_by w s sound block Shut e = sound
 keeps_by w s sound block Repeats e = sound
-keeps_by w s sound block (Clashes c) e = same_sound w (record w { conflicts = c ∷ w.conflicts }) refl refl sound
+keeps_by w s sound block (Clashes c) e = same_sound w (record w { conflicts = c ∷ w.conflicts }) refl refl (λ none. none) refl sound
 keeps_by w s sound block TooEarly e = sound
 keeps_by w s sound block Late e = sound
 keeps_by w s sound block NoRoom e = sound
@@ -122,6 +164,8 @@ keeps_by w s sound block Waits e =
     record {
       history = sound.history;
       agreed = sound.agreed;
+      kind = sound.kind;
+      stored = sound.stored;
       distinct = (new.0, sound.distinct);
       apart = (new.1, sound.apart);
       orphans = (none_found w.history s.parent_id facts.orphan, sound.orphans);
@@ -129,7 +173,7 @@ keeps_by w s sound block Waits e =
       rises = (rises_above s (tip_num w.history) block facts.above, sound.rises);
     }
 keeps_by w s sound block (Passes need) e = sound
-keeps_by w s sound block Takes e = sound_after w (intake w s) (begins_taking w s sound block (judged_takes w s e)) (ends_taking w s)
+keeps_by w s sound block Takes e = sound_after w (intake w s) sound (intake_grows w s) (begins_taking w s sound block (judged_takes w s e)) (ends_taking w s)
 
 pub offer_keeps : OfferKeeps
 offer_keeps w s sound block = keeps_by w s sound block (judge w s) refl
@@ -143,8 +187,7 @@ grows_by w s Late = ([], refl)
 grows_by w s NoRoom = ([], refl)
 grows_by w s Waits = ([], refl)
 grows_by w s (Passes need) = ([], refl)
-grows_by w s Takes =
-    IsSuffix-trans (s ∷ [], refl) (taking_grows (length w.waiting) (record { history = s ∷ w.history; waiting = w.waiting; dropped = [] }))
+grows_by w s Takes = intake_grows w s
 
 pub offer_grows : OfferGrows
 offer_grows w s = grows_by w s (judge w s)

@@ -6,9 +6,9 @@ use Rattle.chain_model.specs.Ancestry.{has_id}
 use Rattle.relay_model.specs.Worlds.{World, Limits}
 use Rattle.relay_model.specs.Offers.{Verdict, Shut, Repeats, Clashes, TooEarly, Late, NoRoom, Waits, Passes, Takes, judge, intake, tip_num, plain_kind}
 
--- an entry: what the relay was opened with, its first number, its run and its limits; the kept kind; a block of the history; one that was answered `Waiting`; the place of one that is stored; that the relay is closed
+-- an entry: what the relay was opened with, its first number, its run, its limits and the size of its bundles; the kept kind; a block of the history; one that was answered `Waiting`; the place of one that is stored; that the relay is closed
 pub data Entry : Type 0 where
-  Opened : ℕ → ℕ → Limits → Entry
+  Opened : ℕ → ℕ → Limits → ℕ → Entry
   Kind : NodeKind → Entry
   Admitted : Slip → Entry
   Waited : Slip → Entry
@@ -18,20 +18,26 @@ pub data Entry : Type 0 where
 -- the least number that is taken
 abbrev pub first_of : List Entry → ℕ
 first_of [] = 0
-first_of (Opened first run limits ∷ es) = first
+first_of (Opened first run limits size ∷ es) = first
 first_of (e ∷ es) = first_of es
 
 -- the run
 abbrev pub run_of : List Entry → ℕ
 run_of [] = 0
-run_of (Opened first run limits ∷ es) = run
+run_of (Opened first run limits size ∷ es) = run
 run_of (e ∷ es) = run_of es
 
 -- the limits
 abbrev pub limits_of : List Entry → Limits
 limits_of [] = record { history = 0; wait_blocks = 0; wait_bytes = 0 }
-limits_of (Opened first run limits ∷ es) = limits
+limits_of (Opened first run limits size ∷ es) = limits
 limits_of (e ∷ es) = limits_of es
+
+-- the size of a bundle
+abbrev pub size_of : List Entry → ℕ
+size_of [] = 0
+size_of (Opened first run limits size ∷ es) = size
+size_of (e ∷ es) = size_of es
 
 -- the kept kind, where there is one
 abbrev pub kind_of : List Entry → Option NodeKind
@@ -77,6 +83,7 @@ world_of es = record {
   first = first_of es;
   run = run_of es;
   limits = limits_of es;
+  size = size_of es;
   kind = kind_of es;
   history = history_of es;
   waiting = waiting_of es;

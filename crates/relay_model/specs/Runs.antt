@@ -3,16 +3,17 @@ use Rattle.std.specs.Prelude.{ℕ, ◌≡◌, Bool, true, false, List, [], ◌�
 use Rattle.std.specs.List.{AllByRecursion}
 use Rattle.block_record.specs.declared.blocks.Slip.{Slip}
 use Rattle.relay_model.specs.declared.answers.Conflict.{Conflict as Clash}
-use Rattle.relay_model.specs.Worlds.{World, Limits}
+use Rattle.relay_model.specs.Worlds.{World, Limits, usual_size}
 use Rattle.relay_model.specs.Offers.{Answer, Closed, Duplicate, Conflict, Early, Stale, WaitFull, Waiting, HistoryFull, Admitted, offered}
 use Rattle.relay_model.specs.Orders.{once}
 
--- a world in which nothing came yet
+-- a world in which nothing came yet, with bundles of the usual size
 abbrev pub empty_world : ℕ → ℕ → Limits → World
 empty_world first run limits = record {
   first = first;
   run = run;
   limits = limits;
+  size = usual_size;
   kind = None;
   history = [];
   waiting = [];

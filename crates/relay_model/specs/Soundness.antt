@@ -1,5 +1,5 @@
 -- What holds of a relay's world after each call.
-use Rattle.std.specs.Prelude.{IsTrue, ◌≡◌, ◌<◌, false, List, [], ◌∷◌}
+use Rattle.std.specs.Prelude.{IsTrue, ◌≡◌, ◌<◌, false, List, [], ◌∷◌, length, None}
 use Rattle.std.specs.List.{AllByRecursion}
 use Rattle.block_record.specs.declared.blocks.Slip.{Slip}
 use Rattle.block_record.specs.Parents.{is_parent_num}
@@ -17,10 +17,14 @@ abbrev pub IsDistinct : List Slip → Type 0
 IsDistinct [] = Unit {0}
 IsDistinct (s ∷ rest) = (has_id rest s.id ≡ false) × IsDistinct rest
 
--- a world is sound: its history is one, the claims in it agree, and what waits is apart from it
+-- a world is sound: its history is one and has a kind, the claims in it agree, what is stored is in it, and what waits is apart from it
 pub record IsSound (w : World) : Type 0 where
   pub history : IsHistory w.history
   pub agreed : ClaimsAgree w.history
+  -- where no kind is kept there is no block
+  pub kind : w.kind ≡ None → w.history ≡ []
+  -- each stored place is one of the history
+  pub stored : AllByRecursion (λ at. at < length w.history) w.stored
   -- no two waiting blocks have one id, and none has the id of a block of the history
   pub distinct : IsDistinct w.waiting
   pub apart : AllByRecursion (λ s. has_id w.history s.id ≡ false) w.waiting

@@ -13,11 +13,16 @@ pub record Limits : Type 0 where
   pub wait_blocks : ℕ
   pub wait_bytes : ℕ
 
--- the world of a relay; each list has what came last first, and the stored places are counted from the root
+-- how many numbers a bundle covers, where no other size is set
+abbrev pub usual_size : ℕ
+usual_size = 100
+
+-- the world of a relay; `size` is how many numbers a bundle covers; each list has what came last first, and the stored places are counted from the root
 pub record World : Type 0 where
   pub first : ℕ
   pub run : ℕ
   pub limits : Limits
+  pub size : ℕ
   pub kind : Option Kind
   pub history : List Slip
   pub waiting : List Slip

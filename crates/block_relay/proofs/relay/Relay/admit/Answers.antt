@@ -3,6 +3,7 @@ use Rattle.std.proofs.lemmas.List.{length-append}
 use Rattle.block_record.specs.declared.blocks.Slip.{Slip}
 use Rattle.block_tree.specs.Places.{place_of}
 use Rattle.relay_model.specs.Chronicles.{Opened}
+use Rattle.relay_model.specs.Worlds.{usual_size}
 use Rattle.relay_model.specs.Offers.{Takes, judge, judge_limit}
 use Rattle.block_relay.specs.declared.marks.Mark.TheVariants as mark
 use Rattle.block_relay.specs.Chronicle.{Told, entries_by, has_kind_mark, kind_mark, limits_told, world_told}
@@ -16,7 +17,7 @@ pub admit-requires-clause-can : goal.admit-requires-clause-can
 admit-requires-clause-can c =
     let t = c.self.inside in
     let s = c.args.slip in
-    let opening = Opened t.first t.run (limits_told t.limits) in
+    let opening = Opened t.first t.run (limits_told t.limits) usual_size in
     let w = world_told (told (entries_by opening t.kind (reverse t.marks.items) t.db.history (reverse t.waited.items)) (reverse t.conflicts.items)) in
     let k = c.self.invariant.0 in
     let rule = subst (λ (v : Told). judge (world_told v) s ≡ judge_limit (world_told v) s) (sym c.self.view_is) c.requires.links in
@@ -59,7 +60,7 @@ invariant_of-self-2 c =
     let t = c.self.inside in
     let s = c.args.slip in
     let root = c.in_ok-root_kind.root_kind in
-    let opening = Opened t.first t.run (limits_told t.limits) in
+    let opening = Opened t.first t.run (limits_told t.limits) usual_size in
     let waited = reverse t.waited.items in
     let h = t.db.history in
     let es = entries_by opening t.kind (reverse t.marks.items) h waited in
@@ -95,7 +96,7 @@ returns c =
     let t = c.self.inside in
     let s = c.args.slip in
     let root = c.in_ok-root_kind.root_kind in
-    let opening = Opened t.first t.run (limits_told t.limits) in
+    let opening = Opened t.first t.run (limits_told t.limits) usual_size in
     let waited = reverse t.waited.items in
     let h = t.db.history in
     let es = entries_by opening t.kind (reverse t.marks.items) h waited in

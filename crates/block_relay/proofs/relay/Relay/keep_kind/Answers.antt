@@ -1,5 +1,6 @@
 use Rattle.std.proofs.Common.{arith, ◌≡◌, [], ◌∷◌, ◌++◌, Some, None, reverse, ap, sym, ◌∙◌}
 use Rattle.relay_model.specs.Chronicles.{Kind, Opened}
+use Rattle.relay_model.specs.Worlds.{usual_size}
 use Rattle.block_relay.specs.declared.marks.Mark.TheVariants as mark
 use Rattle.block_relay.specs.Chronicle.{Told, entries_by, limits_told, world_told}
 use Rattle.block_relay.proofs.KeptFacts.{keeps_kind, marks_push, other_kind}
@@ -9,7 +10,7 @@ pub invariant_of-self-2 : goal.invariant_of-self-2
 invariant_of-self-2 c =
     let t = c.self.inside in
     let k = c.args.kind.now in
-    let opening = Opened t.first t.run (limits_told t.limits) in
+    let opening = Opened t.first t.run (limits_told t.limits) usual_size in
     let none : t.kind ≡ None = sym c.self.invariant.0.kind ∙ ap (λ (v : Told). (world_told v).kind) c.self.view_is ∙ c.requires in
     let ms : reverse c.push_reserved.new.self.items ≡ mark.Kind ∷ reverse t.marks.items = ap reverse (c.push_reserved.ensures.items ∙ ap (λ l. l ++ mark.Kind ∷ []) c.reserve.ensures.items) ∙ marks_push t.marks.items mark.Kind in
     let before = other_kind opening t.kind (Some k) (reverse t.marks.items) (c.self.invariant.2 none) t.db.history (reverse t.waited.items) in
@@ -26,7 +27,7 @@ pub returns-clause-ok : goal.returns-clause-ok
 returns-clause-ok c =
     let t = c.self.inside in
     let k = c.args.kind.now in
-    let opening = Opened t.first t.run (limits_told t.limits) in
+    let opening = Opened t.first t.run (limits_told t.limits) usual_size in
     let none : t.kind ≡ None = sym c.self.invariant.0.kind ∙ ap (λ (v : Told). (world_told v).kind) c.self.view_is ∙ c.requires in
     let ms : reverse c.push_reserved.new.self.items ≡ mark.Kind ∷ reverse t.marks.items = ap reverse (c.push_reserved.ensures.items ∙ ap (λ l. l ++ mark.Kind ∷ []) c.reserve.ensures.items) ∙ marks_push t.marks.items mark.Kind in
     let before = other_kind opening t.kind (Some k) (reverse t.marks.items) (c.self.invariant.2 none) t.db.history (reverse t.waited.items) in

@@ -1,6 +1,7 @@
 use Rattle.std.proofs.Common.{arith, ◌≡◌, [], ◌∷◌, ◌++◌, reverse, ap, sym, ◌∙◌, subst}
 use Rattle.std.specs.Option.{option_map}
 use Rattle.relay_model.specs.Chronicles.{Opened}
+use Rattle.relay_model.specs.Worlds.{usual_size}
 use Rattle.relay_model.specs.Offers.{Waits, judge}
 use Rattle.block_relay.specs.declared.marks.Mark.TheVariants as mark
 use Rattle.block_relay.specs.Chronicle.{Told, entries_by, has_kind_mark, limits_told, world_told}
@@ -24,7 +25,7 @@ invariant_of-self-2 c =
     let t = c.self.inside in
     let s = c.args.slip in
     let b = option_map _ c.args.block in
-    let opening = Opened t.first t.run (limits_told t.limits) in
+    let opening = Opened t.first t.run (limits_told t.limits) usual_size in
     let es = entries_by opening t.kind (reverse t.marks.items) t.db.history (reverse t.waited.items) in
     let rule = subst (λ (v : Told). judge (world_told v) s ≡ Waits) (sym c.self.view_is) c.requires.waits in
     let ms : reverse c.push_reserved-2.new.self.items ≡ mark.Waited ∷ reverse t.marks.items =
