@@ -15,7 +15,9 @@ use Rattle.chain_laws.proofs.Growth.{all_weaker, claim_kept, found_past, tip_cla
 use Rattle.chain_laws.proofs.Reach.{has_id-suffix, has_id-append_right}
 use Rattle.relay_model.specs.declared.answers.Conflict.{Conflict as Clash}
 use Rattle.relay_model.specs.Worlds.{World, next_waiting, without}
-use Rattle.relay_model.specs.Offers.{Verdict, Shut, Repeats, Clashes, TooEarly, Late, NoRoom, Waits, Passes, Takes, Intake, intake, take_one, take_judged, take_in, clash, purged, tip_num, num_of, judge, world_by, kind_after}
+use Rattle.relay_model.specs.Offers.{Intake, intake, take_one, take_judged, take_in, clash, purged, tip_num, num_of, judge, world_by, kind_after}
+use Rattle.relay_model.specs.Verdicts.{Verdict}
+use Rattle.relay_model.specs.Verdicts as verdict
 use Rattle.relay_model.specs.Soundness.{IsBlock}
 use Rattle.relay_model.specs.Chronicles.{Entry, Admitted, first_of, run_of, limits_of, size_of, kind_of, history_of, waited_of, stored_of, closed_of, still_waits, waiting_of, world_of, kind_added, added_by}
 use Rattle.relay_model.specs.Soundness.{IsDistinct, IsSound}
@@ -211,8 +213,8 @@ waits_before more older history x e =
 waiting_after : (newest : List Slip) (room : List Slip) → AllByRecursion (λ t. has_id newest t.parent_id ≡ false) room → filter (still_waits newest) room ≡ purged newest room
 waiting_after newest room none = filter_agree (still_waits newest) _ room (all_weaker (λ t. has_id newest t.parent_id ≡ false) _ (λ x h. rw h refl) room none)
 
-adds_takes : (es : List Entry) (s : Slip) → IsSound (world_of es) → IsBlock s → judge (world_of es) s ≡ Takes
-    → world_of (added_by (world_of es) s Takes ++ es) ≡ record (world_by (world_of es) s Takes) { conflicts = [] }
+adds_takes : (es : List Entry) (s : Slip) → IsSound (world_of es) → IsBlock s → judge (world_of es) s ≡ verdict.Admitted
+    → world_of (added_by (world_of es) s verdict.Admitted ++ es) ≡ record (world_by (world_of es) s verdict.Admitted) { conflicts = [] }
 adds_takes es s sound block e =
     let w = world_of es in
     let d = intake w s in
@@ -252,13 +254,13 @@ adds_takes es s sound block e =
 
 adds_by : (es : List Entry) (s : Slip) → IsSound (world_of es) → IsBlock s → (v : Verdict) → judge (world_of es) s ≡ v
     → world_of (added_by (world_of es) s v ++ es) ≡ record (world_by (world_of es) s v) { conflicts = [] }
-adds_by es s sound block Shut e = refl
-adds_by es s sound block Repeats e = refl
-adds_by es s sound block (Clashes c) e = refl
-adds_by es s sound block TooEarly e = refl
-adds_by es s sound block Late e = refl
-adds_by es s sound block NoRoom e = refl
-adds_by es s sound block Waits e =
+adds_by es s sound block verdict.Closed e = refl
+adds_by es s sound block verdict.Duplicate e = refl
+adds_by es s sound block (verdict.Conflict c) e = refl
+adds_by es s sound block verdict.Early e = refl
+adds_by es s sound block verdict.Stale e = refl
+adds_by es s sound block verdict.WaitFull e = refl
+adds_by es s sound block verdict.Waiting e =
     let facts = judged_waits (world_of es) s e in
     let parent : has_id (history_of es) s.parent_id ≡ false = none_found (history_of es) s.parent_id facts.orphan in
     let above : ltb (tip_num (history_of es)) s.num ≡ true = lt-ltb _ _ facts.above in
@@ -267,8 +269,8 @@ adds_by es s sound block Waits e =
   where
     both : (a b : Bool) → a ≡ false → b ≡ true → (not a && b) ≡ true
     both a b x y = rw (x, y) refl
-adds_by es s sound block (Passes need) e = refl
-adds_by es s sound block Takes e = adds_takes es s sound block e
+adds_by es s sound block (verdict.HistoryFull need) e = refl
+adds_by es s sound block verdict.Admitted e = adds_takes es s sound block e
 
 pub offer_adds : OfferAdds
 offer_adds es s sound block = adds_by es s sound block (judge (world_of es) s) refl

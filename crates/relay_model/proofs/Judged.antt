@@ -6,21 +6,22 @@ use Rattle.chain_model.specs.Ancestry.{find_id}
 use Rattle.chain_model.specs.Finality.{root_num}
 use Rattle.relay_model.specs.declared.answers.Conflict.{Conflict as Clash}
 use Rattle.relay_model.specs.Worlds.{World}
-use Rattle.relay_model.specs.Offers.{Waits, Takes, tip_num, clash, judge_limit, judge_clash, judge_parent, judge_linked, judge_held, judge}
+use Rattle.relay_model.specs.Offers.{tip_num, clash, judge_limit, judge_clash, judge_parent, judge_linked, judge_held, judge}
+use Rattle.relay_model.specs.Verdicts as verdict
 
 -- the id is held nowhere
 pub record IsNew (w : World) (s : Slip) : Type 0 where
   pub held : find_id (w.waiting ++ w.history) s.id ≡ None
   pub late : w.first ≤ s.num
 
-pub limit_takes : (w : World) (s : Slip) → judge_limit w s ≡ Waits → ⊥
+pub limit_takes : (w : World) (s : Slip) → judge_limit w s ≡ verdict.Waiting → ⊥
 limit_takes w s e = grind (arith, e)
 
-clash_waits : (w : World) (s : Slip) (o : Option Clash) → judge_clash w s o ≡ Waits → ⊥
+clash_waits : (w : World) (s : Slip) (o : Option Clash) → judge_clash w s o ≡ verdict.Waiting → ⊥
 clash_waits w s None e = limit_takes w s e
 clash_waits w s (Some c) e = cc
 
-parent_waits : (w : World) (s : Slip) (o : Option Slip) → judge_parent w s o ≡ Waits → (o ≡ None) × (tip_num w.history < s.num)
+parent_waits : (w : World) (s : Slip) (o : Option Slip) → judge_parent w s o ≡ verdict.Waiting → (o ≡ None) × (tip_num w.history < s.num)
 parent_waits w s None e =
     elim (cases_Bool (leb s.num (tip_num w.history))) [
       | inl low ↦ absurd (grind (arith, e, low))
@@ -28,7 +29,7 @@ parent_waits w s None e =
     ]
 parent_waits w s (Some p) e = absurd (clash_waits w s (clash w.history s) e)
 
-linked_waits : (w : World) (s : Slip) (h : List Slip) → judge_linked w s h ≡ Waits → (find_id w.history s.parent_id ≡ None) × (tip_num w.history < s.num)
+linked_waits : (w : World) (s : Slip) (h : List Slip) → judge_linked w s h ≡ verdict.Waiting → (find_id w.history s.parent_id ≡ None) × (tip_num w.history < s.num)
 linked_waits w s [] e = absurd (limit_takes w s e)
 linked_waits w s (t ∷ older) e =
     elim (cases_Bool (leb s.num (root_num w.history))) [
@@ -41,7 +42,7 @@ pub record IsWaiting (w : World) (s : Slip) : Type 0 where
   pub orphan : find_id w.history s.parent_id ≡ None
   pub above : tip_num w.history < s.num
 
-held_waits : (w : World) (s : Slip) (o : Option Slip) → find_id (w.waiting ++ w.history) s.id ≡ o → judge_held w s o ≡ Waits → IsWaiting w s
+held_waits : (w : World) (s : Slip) (o : Option Slip) → find_id (w.waiting ++ w.history) s.id ≡ o → judge_held w s o ≡ verdict.Waiting → IsWaiting w s
 held_waits w s (Some h) held e = absurd (grind (arith, e))
 held_waits w s None held e =
     elim (cases_Bool (ltb s.num w.first)) [
@@ -51,7 +52,7 @@ held_waits w s None held e =
           record { new = record { held = held; late = ltb-false _ _ high }; orphan = facts.0; above = facts.1 }
     ]
 
-pub judged_waits : (w : World) (s : Slip) → judge w s ≡ Waits → IsWaiting w s
+pub judged_waits : (w : World) (s : Slip) → judge w s ≡ verdict.Waiting → IsWaiting w s
 judged_waits w s e =
     elim (cases_Bool w.closed) [
       | inl shut ↦ absurd (grind (arith, e, shut))
@@ -67,15 +68,15 @@ pub record IsLinked (w : World) (s p : Slip) : Type 0 where
 abbrev pub IsTaker : World → Slip → Type 0
 IsTaker w s = (w.history ≡ []) ⊎ ((p : Slip) × IsLinked w s p)
 
-clash_takes : (w : World) (s : Slip) (o : Option Clash) → judge_clash w s o ≡ Takes → o ≡ None
+clash_takes : (w : World) (s : Slip) (o : Option Clash) → judge_clash w s o ≡ verdict.Admitted → o ≡ None
 clash_takes w s None e = refl
 clash_takes w s (Some c) e = absurd (cc)
 
-parent_takes : (w : World) (s : Slip) (o : Option Slip) → judge_parent w s o ≡ Takes → (p : Slip) × (o ≡ Some p) × (clash w.history s ≡ None)
+parent_takes : (w : World) (s : Slip) (o : Option Slip) → judge_parent w s o ≡ verdict.Admitted → (p : Slip) × (o ≡ Some p) × (clash w.history s ≡ None)
 parent_takes w s None e = absurd (grind (arith, e))
 parent_takes w s (Some p) e = (p, refl, clash_takes w s (clash w.history s) e)
 
-linked_takes : (w : World) (s : Slip) (h : List Slip) → w.history ≡ h → judge_linked w s h ≡ Takes → IsTaker w s
+linked_takes : (w : World) (s : Slip) (h : List Slip) → w.history ≡ h → judge_linked w s h ≡ verdict.Admitted → IsTaker w s
 linked_takes w s [] is e = inl is
 linked_takes w s (t ∷ older) is e =
     elim (cases_Bool (leb s.num (root_num w.history))) [
@@ -89,7 +90,7 @@ pub record IsAdmitted (w : World) (s : Slip) : Type 0 where
   pub new : IsNew w s
   pub links : IsTaker w s
 
-held_takes : (w : World) (s : Slip) (o : Option Slip) → find_id (w.waiting ++ w.history) s.id ≡ o → judge_held w s o ≡ Takes → IsAdmitted w s
+held_takes : (w : World) (s : Slip) (o : Option Slip) → find_id (w.waiting ++ w.history) s.id ≡ o → judge_held w s o ≡ verdict.Admitted → IsAdmitted w s
 held_takes w s (Some h) held e = absurd (grind (arith, e))
 held_takes w s None held e =
     elim (cases_Bool (ltb s.num w.first)) [
@@ -97,7 +98,7 @@ held_takes w s None held e =
       | inr high ↦ record { new = record { held = held; late = ltb-false _ _ high }; links = linked_takes w s w.history refl (rw high at e) }
     ]
 
-pub judged_takes : (w : World) (s : Slip) → judge w s ≡ Takes → IsAdmitted w s
+pub judged_takes : (w : World) (s : Slip) → judge w s ≡ verdict.Admitted → IsAdmitted w s
 judged_takes w s e =
     elim (cases_Bool w.closed) [
       | inl shut ↦ absurd (grind (arith, e, shut))

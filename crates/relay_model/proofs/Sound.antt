@@ -13,7 +13,9 @@ use Rattle.chain_model.specs.Finality.{root_num}
 use Rattle.chain_laws.proofs.Growth.{IsFound, all_weaker}
 use Rattle.relay_model.specs.Worlds.{World, Limits}
 use Rattle.relay_model.specs.Runs.{empty_world}
-use Rattle.relay_model.specs.Offers.{Verdict, Shut, Repeats, Clashes, TooEarly, Late, NoRoom, Waits, Passes, Takes, Intake, intake, admitted, kind_after, purged, tip_num, judge, world_by}
+use Rattle.relay_model.specs.Offers.{Intake, intake, admitted, kind_after, purged, tip_num, judge, world_by}
+use Rattle.relay_model.specs.Verdicts.{Verdict}
+use Rattle.relay_model.specs.Verdicts as verdict
 use Rattle.relay_model.specs.Soundness.{IsBlock}
 use Rattle.relay_model.specs.Soundness.{IsDistinct, IsSound}
 use Rattle.relay_model.specs.Laws.{OfferKeeps, OfferGrows}
@@ -152,13 +154,13 @@ empty_sound first run limits = record {
     nothing s f = grind (arith, f)
 
 pub keeps_by : (w : World) (s : Slip) → IsSound w → IsBlock s → (v : Verdict) → judge w s ≡ v → IsSound (world_by w s v)
-keeps_by w s sound block Shut e = sound
-keeps_by w s sound block Repeats e = sound
-keeps_by w s sound block (Clashes c) e = same_sound w (record w { conflicts = c ∷ w.conflicts }) refl refl (λ none. none) refl sound
-keeps_by w s sound block TooEarly e = sound
-keeps_by w s sound block Late e = sound
-keeps_by w s sound block NoRoom e = sound
-keeps_by w s sound block Waits e =
+keeps_by w s sound block verdict.Closed e = sound
+keeps_by w s sound block verdict.Duplicate e = sound
+keeps_by w s sound block (verdict.Conflict c) e = same_sound w (record w { conflicts = c ∷ w.conflicts }) refl refl (λ none. none) refl sound
+keeps_by w s sound block verdict.Early e = sound
+keeps_by w s sound block verdict.Stale e = sound
+keeps_by w s sound block verdict.WaitFull e = sound
+keeps_by w s sound block verdict.Waiting e =
     let facts = judged_waits w s e in
     let new = new_parts w s facts.new in
     record {
@@ -172,22 +174,22 @@ keeps_by w s sound block Waits e =
       above = (facts.above, sound.above);
       rises = (rises_above s (tip_num w.history) block facts.above, sound.rises);
     }
-keeps_by w s sound block (Passes need) e = sound
-keeps_by w s sound block Takes e = sound_after w (intake w s) sound (intake_grows w s) (begins_taking w s sound block (judged_takes w s e)) (ends_taking w s)
+keeps_by w s sound block (verdict.HistoryFull need) e = sound
+keeps_by w s sound block verdict.Admitted e = sound_after w (intake w s) sound (intake_grows w s) (begins_taking w s sound block (judged_takes w s e)) (ends_taking w s)
 
 pub offer_keeps : OfferKeeps
 offer_keeps w s sound block = keeps_by w s sound block (judge w s) refl
 
 grows_by : (w : World) (s : Slip) (v : Verdict) → IsSuffix w.history (world_by w s v).history
-grows_by w s Shut = ([], refl)
-grows_by w s Repeats = ([], refl)
-grows_by w s (Clashes c) = ([], refl)
-grows_by w s TooEarly = ([], refl)
-grows_by w s Late = ([], refl)
-grows_by w s NoRoom = ([], refl)
-grows_by w s Waits = ([], refl)
-grows_by w s (Passes need) = ([], refl)
-grows_by w s Takes = intake_grows w s
+grows_by w s verdict.Closed = ([], refl)
+grows_by w s verdict.Duplicate = ([], refl)
+grows_by w s (verdict.Conflict c) = ([], refl)
+grows_by w s verdict.Early = ([], refl)
+grows_by w s verdict.Stale = ([], refl)
+grows_by w s verdict.WaitFull = ([], refl)
+grows_by w s verdict.Waiting = ([], refl)
+grows_by w s (verdict.HistoryFull need) = ([], refl)
+grows_by w s verdict.Admitted = intake_grows w s
 
 pub offer_grows : OfferGrows
 offer_grows w s = grows_by w s (judge w s)

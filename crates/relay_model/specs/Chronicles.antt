@@ -4,7 +4,9 @@ use Rattle.block_record.specs.declared.blocks.Slip.{Slip}
 use Rattle.block_record.specs.declared.blocks.Kind.{Kind as NodeKind}
 use Rattle.chain_model.specs.Ancestry.{has_id}
 use Rattle.relay_model.specs.Worlds.{World, Limits}
-use Rattle.relay_model.specs.Offers.{Verdict, Shut, Repeats, Clashes, TooEarly, Late, NoRoom, Waits, Passes, Takes, judge, intake, tip_num, plain_kind}
+use Rattle.relay_model.specs.Offers.{judge, intake, tip_num, plain_kind}
+use Rattle.relay_model.specs.Verdicts.{Verdict}
+use Rattle.relay_model.specs.Verdicts as verdict
 
 -- an entry: what the relay was opened with, its first number, its run, its limits and the size of its bundles; the kept kind; a block of the history; one that was answered `Waiting`; the place of one that is stored; that the relay is closed
 pub data Entry : Type 0 where
@@ -100,15 +102,15 @@ kind_added (Some k) history = []
 
 -- the entries that an offer adds, by the rule that decides it
 abbrev pub added_by : World → Slip → Verdict → List Entry
-added_by w s Shut = []
-added_by w s Repeats = []
-added_by w s (Clashes c) = []
-added_by w s TooEarly = []
-added_by w s Late = []
-added_by w s NoRoom = []
-added_by w s Waits = Waited s ∷ []
-added_by w s (Passes need) = []
-added_by w s Takes =
+added_by w s verdict.Closed = []
+added_by w s verdict.Duplicate = []
+added_by w s (verdict.Conflict c) = []
+added_by w s verdict.Early = []
+added_by w s verdict.Stale = []
+added_by w s verdict.WaitFull = []
+added_by w s verdict.Waiting = Waited s ∷ []
+added_by w s (verdict.HistoryFull need) = []
+added_by w s verdict.Admitted =
     let after = (intake w s).history in
     map Admitted (take (length after - length w.history) after) ++ kind_added w.kind w.history
 

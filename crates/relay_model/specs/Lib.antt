@@ -1,4 +1,5 @@
 pub mod Worlds
+pub mod Verdicts
 pub mod Offers
 pub mod Looks
 pub mod Chronicles

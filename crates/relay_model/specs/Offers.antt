@@ -9,19 +9,9 @@ use Rattle.relay_model.specs.declared.answers.Conflict.{Conflict as Clash}
 use Rattle.relay_model.specs.declared.answers.ConflictKind.{ConflictKind}
 use Rattle.relay_model.specs.declared.answers.ConflictKind.TheVariants as kind
 use Rattle.block_record.specs.Slips.{same_slip}
+use Rattle.relay_model.specs.Verdicts.{Verdict}
+use Rattle.relay_model.specs.Verdicts as verdict
 use Rattle.relay_model.specs.Worlds.{World, next_waiting, without, has_room, descendants, room_bytes}
-
--- the rule that decides an offer, one for each answer; `Passes` has the room that is needed in the history
-pub data Verdict : Type 0 where
-  Shut : Verdict
-  Repeats : Verdict
-  Clashes : Clash → Verdict
-  TooEarly : Verdict
-  Late : Verdict
-  NoRoom : Verdict
-  Waits : Verdict
-  Passes : ℕ → Verdict
-  Takes : Verdict
 
 -- the answer to an offer: `Closed` has the length of the history; `WaitFull` the blocks and bytes that wait; `HistoryFull` the length and the room that is needed; `Admitted` the place of the first admitted block, how many there are, and the conflicts of those dropped, in the order of dropping
 pub data Answer : Type 0 where
@@ -71,31 +61,31 @@ clash newest s = parent_clash newest s (find_id newest s.parent_id)
 abbrev pub judge_limit : World → Slip → Verdict
 judge_limit w s =
     let need = 1 + descendants w.waiting s.id in
-    if nat_le (length w.history + need) w.limits.history then Takes else Passes need
+    if nat_le (length w.history + need) w.limits.history then verdict.Admitted else verdict.HistoryFull need
 
 -- a block whose parent is held, by how it contradicts the history
 abbrev pub judge_clash : World → Slip → Option Clash → Verdict
 judge_clash w s None = judge_limit w s
-judge_clash w s (Some c) = Clashes c
+judge_clash w s (Some c) = verdict.Conflict c
 
 -- a block above the root, by its parent, where that is held
 abbrev pub judge_parent : World → Slip → Option Slip → Verdict
-judge_parent w s None = if nat_le s.num (tip_num w.history) then Late else if has_room w.limits w.waiting s then Waits else NoRoom
+judge_parent w s None = if nat_le s.num (tip_num w.history) then verdict.Stale else if has_room w.limits w.waiting s then verdict.Waiting else verdict.WaitFull
 judge_parent w s (Some p) = judge_clash w s (clash w.history s)
 
 -- a block that is not held and not too low, by whether there is a history yet
 abbrev pub judge_linked : World → Slip → List Slip → Verdict
 judge_linked w s [] = judge_limit w s
-judge_linked w s (t ∷ older) = if nat_le s.num (root_num w.history) then Late else judge_parent w s (find_id w.history s.parent_id)
+judge_linked w s (t ∷ older) = if nat_le s.num (root_num w.history) then verdict.Stale else judge_parent w s (find_id w.history s.parent_id)
 
 -- a block whose id is held, or not
 abbrev pub judge_held : World → Slip → Option Slip → Verdict
-judge_held w s (Some h) = if same_slip h s then Repeats else Clashes (conflict kind.Id h s)
-judge_held w s None = if nat_lt s.num w.first then TooEarly else judge_linked w s w.history
+judge_held w s (Some h) = if same_slip h s then verdict.Duplicate else verdict.Conflict (conflict kind.Id h s)
+judge_held w s None = if nat_lt s.num w.first then verdict.Early else judge_linked w s w.history
 
 -- the rule that decides an offer: the first that applies
 abbrev pub judge : World → Slip → Verdict
-judge w s = if w.closed then Shut else judge_held w s (find_id (w.waiting ++ w.history) s.id)
+judge w s = if w.closed then verdict.Closed else judge_held w s (find_id (w.waiting ++ w.history) s.id)
 
 -- a history while waiting blocks are taken in, the blocks that still wait, and the conflicts of those dropped
 pub record Intake : Type 0 where
@@ -147,27 +137,27 @@ admitted w d = record w {
 
 -- the world that a verdict leaves
 abbrev pub world_by : World → Slip → Verdict → World
-world_by w s Shut = w
-world_by w s Repeats = w
-world_by w s (Clashes c) = record w { conflicts = c ∷ w.conflicts }
-world_by w s TooEarly = w
-world_by w s Late = w
-world_by w s NoRoom = w
-world_by w s Waits = record w { waiting = s ∷ w.waiting }
-world_by w s (Passes need) = w
-world_by w s Takes = admitted w (intake w s)
+world_by w s verdict.Closed = w
+world_by w s verdict.Duplicate = w
+world_by w s (verdict.Conflict c) = record w { conflicts = c ∷ w.conflicts }
+world_by w s verdict.Early = w
+world_by w s verdict.Stale = w
+world_by w s verdict.WaitFull = w
+world_by w s verdict.Waiting = record w { waiting = s ∷ w.waiting }
+world_by w s (verdict.HistoryFull need) = w
+world_by w s verdict.Admitted = admitted w (intake w s)
 
 -- the answer that a verdict gives
 abbrev pub answer_by : World → Slip → Verdict → Answer
-answer_by w s Shut = Closed (length w.history)
-answer_by w s Repeats = Duplicate
-answer_by w s (Clashes c) = Conflict c
-answer_by w s TooEarly = Early
-answer_by w s Late = Stale
-answer_by w s NoRoom = WaitFull (length w.waiting) (room_bytes w.waiting)
-answer_by w s Waits = Waiting
-answer_by w s (Passes need) = HistoryFull (length w.history) need
-answer_by w s Takes = Admitted (length w.history) (length (intake w s).history - length w.history) (reverse (intake w s).dropped)
+answer_by w s verdict.Closed = Closed (length w.history)
+answer_by w s verdict.Duplicate = Duplicate
+answer_by w s (verdict.Conflict c) = Conflict c
+answer_by w s verdict.Early = Early
+answer_by w s verdict.Stale = Stale
+answer_by w s verdict.WaitFull = WaitFull (length w.waiting) (room_bytes w.waiting)
+answer_by w s verdict.Waiting = Waiting
+answer_by w s (verdict.HistoryFull need) = HistoryFull (length w.history) need
+answer_by w s verdict.Admitted = Admitted (length w.history) (length (intake w s).history - length w.history) (reverse (intake w s).dropped)
 
 -- an answer, and the world after it
 pub record Offer : Type 0 where
