@@ -9,7 +9,8 @@ use Rattle.block_record.specs.declared.blocks.Kind.{Kind as NodeKind}
 use Rattle.relay_model.specs.declared.answers.Conflict.{Conflict as Clash}
 use Rattle.relay_model.specs.Worlds.{World, descendants}
 use Rattle.relay_model.specs.Chronicles.{Entry, Admitted, added_by, kind_added}
-use Rattle.relay_model.specs.Offers.{Intake, Takes, Admitted as AdmittedAs, answer_by, intake, judge, judge_limit, world_by}
+use Rattle.relay_model.specs.Offers.{Intake, Admitted as AdmittedAs, answer_by, intake, judge, judge_limit, world_by}
+use Rattle.relay_model.specs.Verdicts as verdict
 use Rattle.relay_model.specs.Soundness.{IsSound}
 use Rattle.fork_db.specs.Forks.{Forks}
 use Rattle.wait_room.specs.Rooms.{Room}
@@ -36,7 +37,7 @@ reserved w db after room kept shut first run k h l = record {
 
 -- a block that links is taken where the limit has room
 pub takes_limit : (w : World) (s : Slip) (db : Forks) (room : Room) → HasParts w db room → w.limits.history ≡ db.limit → length db.history + (1 + descendants room.waiting s.id) ≤ db.limit
-    → judge_limit w s ≡ Takes
+    → judge_limit w s ≡ verdict.Admitted
 takes_limit w s db room parts limit le =
     let n = ap length parts.history in
     let d = ap (λ l. descendants l s.id) parts.waiting in
@@ -45,7 +46,7 @@ takes_limit w s db room parts limit le =
 
 -- the blocks that an admission brings are entries of it
 added_takes : (w : World) (h room : List Slip) (kept root : Option NodeKind) (s : Slip) (more : List Slip) → w.history ≡ h → w.waiting ≡ room → w.kind ≡ kept
-    → more ++ h ≡ (intake_from h room s).history → kind_entry root ≡ kind_added kept h → map Admitted more ++ kind_entry root ≡ added_by w s Takes
+    → more ++ h ≡ (intake_from h room s).history → kind_entry root ≡ kind_added kept h → map Admitted more ++ kind_entry root ≡ added_by w s verdict.Admitted
 added_takes w h room kept root s more eh er ek brought entry =
     let same = intake_same w h room s eh er in
     let after : (intake w s).history ≡ more ++ h = ap (λ (i : Intake). i.history) same ∙ sym brought in
@@ -63,7 +64,7 @@ added_takes w h room kept root s more eh er ek brought entry =
 pub entries_after : (opening : Entry) (w : World) (h newest room waited : List Slip) (kept root now : Option NodeKind) (s : Slip) (more : List Slip) (ms marks : List Mark) (n : ℕ) → w.history ≡ h → w.waiting ≡ room → w.kind ≡ kept
     → more ++ h ≡ (intake_from h room s).history → newest ≡ (intake_from h room s).history → length newest ≡ n + length h → now ≡ option_or root kept
     → marks ≡ (ms ++ kind_mark root) ++ replicate n mark.Admitted → kind_entry root ≡ kind_added kept h → (is_some root ≡ true → kept ≡ None) → (kept ≡ None → has_kind_mark (reverse ms) ≡ false)
-    → entries_by opening now (reverse marks) newest waited ≡ added_by w s Takes ++ entries_by opening kept (reverse ms) h waited
+    → entries_by opening now (reverse marks) newest waited ≡ added_by w s verdict.Admitted ++ entries_by opening kept (reverse ms) h waited
 entries_after opening w h newest room waited kept root now s more ms marks n eh er ek brought is len en em entry first none =
     let whole : newest ≡ more ++ h = is ∙ sym brought in
     let count : n ≡ length more = omega (arith, len, ap length whole, length-append more h) in
@@ -80,7 +81,7 @@ conflicts_after old noted all d e f = ap reverse e ∙ reverse-append old noted 
 
 -- the rule of a block that links, where the limit has room
 pub takes_rule : (w : World) (s : Slip) (db : Forks) (room : Room) (kept : Option NodeKind) (shut : Bool) (first run : ℕ) → IsKept w db room kept shut first run → judge w s ≡ judge_limit w s
-    → (db.limit < length db.history + (1 + descendants room.waiting s.id) → ⊥) → judge w s ≡ Takes
+    → (db.limit < length db.history + (1 + descendants room.waiting s.id) → ⊥) → judge w s ≡ verdict.Admitted
 takes_rule w s db room kept shut first run k rule enough =
     rule ∙ takes_limit w s db room k.parts k.limit (elim (cases_Bool (ltb db.limit (length db.history + (1 + descendants room.waiting s.id)))) [
       | inl less ↦ absurd (enough (ltb-true _ _ less))
@@ -96,7 +97,7 @@ brings_most w s db room parts sound =
 
 -- what it is answered
 pub said_after : (w : World) (h room : List Slip) (s : Slip) (from count : ℕ) (newest : List Slip) (dropped d : List Clash) → w.history ≡ h → w.waiting ≡ room → newest ≡ (intake_from h room s).history
-    → from ≡ length h → length newest ≡ count + length h → reverse dropped ≡ d → d ≡ (intake_from h room s).dropped → answer_by w s Takes ≡ AdmittedAs from count dropped
+    → from ≡ length h → length newest ≡ count + length h → reverse dropped ≡ d → d ≡ (intake_from h room s).dropped → answer_by w s verdict.Admitted ≡ AdmittedAs from count dropped
 said_after w h room s from count newest dropped d eh er is start len turned all =
     let same = intake_same w h room s eh er in
     let n : length (intake w s).history - length w.history ≡ count = omega (arith, ap (λ (i : Intake). length i.history) same, ap length is, ap length eh, len) in
@@ -105,7 +106,7 @@ said_after w h room s from count newest dropped d eh er is start len turned all 
     ap (λ k. AdmittedAs k (length (intake w s).history - length w.history) (reverse (intake w s).dropped)) f ∙ ap (λ k. AdmittedAs from k (reverse (intake w s).dropped)) n ∙ ap (λ l. AdmittedAs from count l) ds
 
 -- the conflicts that an admission leaves are those of the blocks dropped before those noted
-pub clashes_same : (w : World) (h room : List Slip) (s : Slip) → w.history ≡ h → w.waiting ≡ room → (intake_from h room s).dropped ++ w.conflicts ≡ (world_by w s Takes).conflicts
+pub clashes_same : (w : World) (h room : List Slip) (s : Slip) → w.history ≡ h → w.waiting ≡ room → (intake_from h room s).dropped ++ w.conflicts ≡ (world_by w s verdict.Admitted).conflicts
 clashes_same w h room s eh er =
     let same = intake_same w h room s eh er in
     ap (λ (i : Intake). i.dropped ++ w.conflicts) (sym same)

@@ -2,7 +2,8 @@
 use Rattle.std.proofs.Common.{arith, ◌≡◌, ◌++◌, false, List, [], Result, Err, refl, sym, ◌∙◌, ap, subst}
 use Rattle.block_record.specs.declared.blocks.Slip.{Slip}
 use Rattle.relay_model.specs.declared.answers.Conflict.{Conflict as Clash}
-use Rattle.relay_model.specs.Offers.{Verdict, answer_by, offered, judge, world_by}
+use Rattle.relay_model.specs.Offers.{answer_by, offered, judge, world_by}
+use Rattle.relay_model.specs.Verdicts.{Verdict}
 use Rattle.relay_model.specs.Chronicles.{Entry, added, added_by}
 use Rattle.relay_model.specs.Soundness.{IsBlock, IsSound}
 use Rattle.block_relay.specs.declared.answers.Offered.{Offered}

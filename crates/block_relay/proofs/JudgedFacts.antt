@@ -16,7 +16,8 @@ use Rattle.fork_db.specs.declared.db.Verdict.TheVariants as verdict
 use Rattle.fork_db.proofs.ClaimFacts.{tip_there}
 use Rattle.relay_model.specs.declared.answers.ConflictKind.TheVariants as kind
 use Rattle.relay_model.specs.Worlds.{World}
-use Rattle.relay_model.specs.Offers.{Late, clash, conflict, claim_agrees, finality_clash, judge_linked, judge_parent, parent_clash}
+use Rattle.relay_model.specs.Offers.{clash, conflict, claim_agrees, finality_clash, judge_linked, judge_parent, parent_clash}
+use Rattle.relay_model.specs.Verdicts as verdict
 
 -- a history with blocks has a final tip
 pub tip_place : (newest : List Slip) (o : Option ℕ) → IsHistory newest → 0 < length newest → slip_of newest o ≡ final_tip newest → IsSome o
@@ -98,16 +99,16 @@ pub found_either : (room newest : List Slip) (id : List ℕ) → find_id (room +
 found_either room newest id = find-append (λ s. same_id s.id id) room newest
 
 -- a block at or below the root
-pub late_root : (w : World) (s : Slip) (h : List Slip) → w.history ≡ h → 0 < length h → s.num ≤ root_num h → Late ≡ judge_linked w s w.history
+pub late_root : (w : World) (s : Slip) (h : List Slip) → w.history ≡ h → 0 < length h → s.num ≤ root_num h → verdict.Stale ≡ judge_linked w s w.history
 late_root w s h e some low =
-    subst (λ l. Late ≡ judge_linked w s l) (sym e) (by h e some low)
+    subst (λ l. verdict.Stale ≡ judge_linked w s l) (sym e) (by h e some low)
   where
     below : (a b : ℕ) → a ≤ b → nat_le a b ≡ true
     below a b le = grind arith
 
-    by : (l : List Slip) → w.history ≡ l → 0 < length l → s.num ≤ root_num l → Late ≡ judge_linked w s l
+    by : (l : List Slip) → w.history ≡ l → 0 < length l → s.num ≤ root_num l → verdict.Stale ≡ judge_linked w s l
     by [] is lt low = absurd (omega arith)
-    by (t ∷ older) is lt low = sym (ap (λ b. cond b Late (judge_parent w s (find_id w.history s.parent_id))) (below s.num (root_num w.history) (subst (λ l. s.num ≤ root_num l) (sym is) low)))
+    by (t ∷ older) is lt low = sym (ap (λ b. cond b verdict.Stale (judge_parent w s (find_id w.history s.parent_id))) (below s.num (root_num w.history) (subst (λ l. s.num ≤ root_num l) (sym is) low)))
 
 -- a block above the root
 pub above_root : (w : World) (s : Slip) (h : List Slip) → w.history ≡ h → 0 < length h → root_num h < s.num → judge_parent w s (find_id w.history s.parent_id) ≡ judge_linked w s w.history
@@ -119,7 +120,7 @@ above_root w s h e some high =
 
     by : (l : List Slip) → w.history ≡ l → 0 < length l → root_num l < s.num → judge_parent w s (find_id w.history s.parent_id) ≡ judge_linked w s l
     by [] is lt high = absurd (omega arith)
-    by (t ∷ older) is lt high = sym (ap (λ b. cond b Late (judge_parent w s (find_id w.history s.parent_id))) (over s.num (root_num w.history) (subst (λ l. root_num l < s.num) (sym is) high)))
+    by (t ∷ older) is lt high = sym (ap (λ b. cond b verdict.Stale (judge_parent w s (find_id w.history s.parent_id))) (over s.num (root_num w.history) (subst (λ l. root_num l < s.num) (sym is) high)))
 
 -- a block whose parent is held and that contradicts nothing may come next
 agrees_from : (newest : List Slip) (s : Slip) → finality_clash newest s (final_tip newest) ≡ None → agrees_next newest s ≡ true

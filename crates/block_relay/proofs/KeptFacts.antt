@@ -10,7 +10,9 @@ use Rattle.relay_model.specs.declared.answers.Conflict.{Conflict as Clash}
 use Rattle.relay_model.specs.Worlds.{World, has_room}
 use Rattle.relay_model.specs.Chronicles.{Entry, Admitted, Closed, Kind, Stored, Waited, added, added_by, still_waits, world_of}
 use Rattle.relay_model.specs.Soundness.{IsBlock, IsSound}
-use Rattle.relay_model.specs.Offers.{Intake, intake, kind_after, purged, Verdict, Shut, Repeats, Clashes, TooEarly, Late, NoRoom, Waits, Passes, Takes, clash, judge, judge_clash, judge_held, judge_linked, judge_parent, offered, tip_num, world_by}
+use Rattle.relay_model.specs.Offers.{Intake, intake, kind_after, purged, clash, judge, judge_clash, judge_held, judge_linked, judge_parent, offered, tip_num, world_by}
+use Rattle.relay_model.specs.Verdicts.{Verdict}
+use Rattle.relay_model.specs.Verdicts as verdict
 use Rattle.relay_model.proofs.Entries.{offer_adds}
 use Rattle.relay_model.proofs.Judged.{judged_waits, limit_takes}
 use Rattle.relay_model.proofs.Sound.{keeps_by, new_parts, none_found, same_sound}
@@ -59,11 +61,11 @@ notes es cs c db room kept shut first run k = record {
 }
 
 -- a block that has to wait has room
-clash_waits : (w : World) (s : Slip) (o : Option Clash) → judge_clash w s o ≡ Waits → ⊥
+clash_waits : (w : World) (s : Slip) (o : Option Clash) → judge_clash w s o ≡ verdict.Waiting → ⊥
 clash_waits w s None e = limit_takes w s e
 clash_waits w s (Some c) e = absurd (grind (arith, e))
 
-room_waits : (w : World) (s : Slip) (o : Option Slip) → judge_parent w s o ≡ Waits → has_room w.limits w.waiting s ≡ true
+room_waits : (w : World) (s : Slip) (o : Option Slip) → judge_parent w s o ≡ verdict.Waiting → has_room w.limits w.waiting s ≡ true
 room_waits w s (Some p) e = absurd (clash_waits w s (clash w.history s) e)
 room_waits w s None e =
     elim (cases_Bool (leb s.num (tip_num w.history))) [
@@ -74,7 +76,7 @@ room_waits w s None e =
       ]
     ]
 
-linked_room : (w : World) (s : Slip) (h : List Slip) → judge_linked w s h ≡ Waits → has_room w.limits w.waiting s ≡ true
+linked_room : (w : World) (s : Slip) (h : List Slip) → judge_linked w s h ≡ verdict.Waiting → has_room w.limits w.waiting s ≡ true
 linked_room w s [] e = absurd (limit_takes w s e)
 linked_room w s (t ∷ older) e =
     elim (cases_Bool (leb s.num (root_num w.history))) [
@@ -82,7 +84,7 @@ linked_room w s (t ∷ older) e =
       | inr high ↦ room_waits w s (find_id w.history s.parent_id) (rw high at e)
     ]
 
-held_room : (w : World) (s : Slip) (o : Option Slip) → judge_held w s o ≡ Waits → has_room w.limits w.waiting s ≡ true
+held_room : (w : World) (s : Slip) (o : Option Slip) → judge_held w s o ≡ verdict.Waiting → has_room w.limits w.waiting s ≡ true
 held_room w s (Some h) e = absurd (grind (arith, e))
 held_room w s None e =
     elim (cases_Bool (ltb s.num w.first)) [
@@ -90,7 +92,7 @@ held_room w s None e =
       | inr high ↦ linked_room w s w.history (rw high at e)
     ]
 
-pub judged_room : (w : World) (s : Slip) → judge w s ≡ Waits → has_room w.limits w.waiting s ≡ true
+pub judged_room : (w : World) (s : Slip) → judge w s ≡ verdict.Waiting → has_room w.limits w.waiting s ≡ true
 judged_room w s e =
     elim (cases_Bool w.closed) [
       | inl shut ↦ absurd (grind (arith, e, shut))
@@ -98,17 +100,17 @@ judged_room w s e =
     ]
 
 -- the room of the relay has room for it, and not its id
-pub fits_room : (w : World) (s : Slip) (db : Forks) (room : Room) → HasParts w db room → judge w s ≡ Waits → IsTrue (fits_in room s.length)
+pub fits_room : (w : World) (s : Slip) (db : Forks) (room : Room) → HasParts w db room → judge w s ≡ verdict.Waiting → IsTrue (fits_in room s.length)
 fits_room w s db room parts e =
     let has : has_room w.limits w.waiting s ≡ true = judged_room w s e in
     rw (← parts.waiting, ← parts.wait_blocks, ← parts.wait_bytes) has
 
-pub lacks_room : (w : World) (s : Slip) (db : Forks) (room : Room) → HasParts w db room → judge w s ≡ Waits → has_id room.waiting s.id ≡ false
+pub lacks_room : (w : World) (s : Slip) (db : Forks) (room : Room) → HasParts w db room → judge w s ≡ verdict.Waiting → has_id room.waiting s.id ≡ false
 lacks_room w s db room parts e = rw (← parts.waiting) (new_parts w s (judged_waits w s e).new).0
 
 -- a block waits
 pub waits : (es : List Entry) (cs : List Clash) (db : Forks) (room : Room) (kept : Option NodeKind) (shut : Bool) (first run : ℕ) (s : Slip) (b : Option Block) → IsKept (world_told (told es cs)) db room kept shut first run
-    → judge (world_told (told es cs)) s ≡ Waits → IsBlock s → IsKept (world_told (told (Waited s ∷ es) cs)) db (with_block room s b) kept shut first run
+    → judge (world_told (told es cs)) s ≡ verdict.Waiting → IsBlock s → IsKept (world_told (told (Waited s ∷ es) cs)) db (with_block room s b) kept shut first run
 waits es cs db room kept shut first run s b k e block =
     let w = world_told (told es cs) in
     let v = world_told (told (Waited s ∷ es) cs) in
@@ -122,7 +124,7 @@ waits es cs db room kept shut first run s b k e block =
       first_is = k.first_is;
       run_is = k.run_is;
       limit = k.limit;
-      sound = same_sound (world_by w s Waits) v refl (sym more) (λ none. none) refl (keeps_by w s k.sound block Waits e);
+      sound = same_sound (world_by w s verdict.Waiting) v refl (sym more) (λ none. none) refl (keeps_by w s k.sound block verdict.Waiting e);
     }
 
 pub slips_push : (xs : List Slip) (s : Slip) → reverse (xs ++ s ∷ []) ≡ s ∷ reverse xs
@@ -158,26 +160,26 @@ with_conflicts w cs = record w { conflicts = cs }
 
 -- what a verdict adds and leaves does not hang on the conflicts that were noted
 added_same : (w : World) (cs : List Clash) (s : Slip) (v : Verdict) → added_by (with_conflicts w cs) s v ≡ added_by w s v
-added_same w cs s Shut = refl
-added_same w cs s Repeats = refl
-added_same w cs s (Clashes c) = refl
-added_same w cs s TooEarly = refl
-added_same w cs s Late = refl
-added_same w cs s NoRoom = refl
-added_same w cs s Waits = refl
-added_same w cs s (Passes need) = refl
-added_same w cs s Takes = refl
+added_same w cs s verdict.Closed = refl
+added_same w cs s verdict.Duplicate = refl
+added_same w cs s (verdict.Conflict c) = refl
+added_same w cs s verdict.Early = refl
+added_same w cs s verdict.Stale = refl
+added_same w cs s verdict.WaitFull = refl
+added_same w cs s verdict.Waiting = refl
+added_same w cs s (verdict.HistoryFull need) = refl
+added_same w cs s verdict.Admitted = refl
 
 left_same : (w : World) (cs : List Clash) (s : Slip) (v : Verdict) → with_conflicts (world_by w s v) (world_by (with_conflicts w cs) s v).conflicts ≡ world_by (with_conflicts w cs) s v
-left_same w cs s Shut = refl
-left_same w cs s Repeats = refl
-left_same w cs s (Clashes c) = refl
-left_same w cs s TooEarly = refl
-left_same w cs s Late = refl
-left_same w cs s NoRoom = refl
-left_same w cs s Waits = refl
-left_same w cs s (Passes need) = refl
-left_same w cs s Takes = refl
+left_same w cs s verdict.Closed = refl
+left_same w cs s verdict.Duplicate = refl
+left_same w cs s (verdict.Conflict c) = refl
+left_same w cs s verdict.Early = refl
+left_same w cs s verdict.Stale = refl
+left_same w cs s verdict.WaitFull = refl
+left_same w cs s verdict.Waiting = refl
+left_same w cs s (verdict.HistoryFull need) = refl
+left_same w cs s verdict.Admitted = refl
 
 -- the entries and the conflicts after an offer stand for the world that it leaves
 pub told_offered : (es : List Entry) (cs : List Clash) (s : Slip) → IsSound (world_told (told es cs)) → IsBlock s
@@ -239,14 +241,14 @@ intake_same w h room s eh er = rw (eh, er) refl
 
 -- a block that is admitted, with all that follows
 pub admits : (es : List Entry) (cs : List Clash) (db after : Forks) (room left : Room) (drops spent : Dropping) (kept : Option NodeKind) (shut : Bool) (first run : ℕ) (s : Slip) → IsKept (world_told (told es cs)) db room kept shut first run
-    → judge (world_told (told es cs)) s ≡ Takes → IsBlock s
+    → judge (world_told (told es cs)) s ≡ verdict.Admitted → IsBlock s
     → after.history ≡ (intake_from db.history room.waiting s).history → left.waiting ≡ purged after.history (intake_from db.history room.waiting s).waiting → HasLimits db room drops after left spent
-    → IsKept (world_told (told (added_by (world_told (told es cs)) s Takes ++ es) (world_by (world_told (told es cs)) s Takes).conflicts)) after left (kind_after kept db.history) shut first run
+    → IsKept (world_told (told (added_by (world_told (told es cs)) s verdict.Admitted ++ es) (world_by (world_told (told es cs)) s verdict.Admitted).conflicts)) after left (kind_after kept db.history) shut first run
 admits es cs db after room left drops spent kept shut first run s k e block h r limits =
     let w = world_told (told es cs) in
     let d = intake_from db.history room.waiting s in
     let same = intake_same w db.history room.waiting s k.parts.history k.parts.waiting in
-    let brought : world_told (told (added_by w s Takes ++ es) (world_by w s Takes).conflicts) ≡ world_by w s Takes =
+    let brought : world_told (told (added_by w s verdict.Admitted ++ es) (world_by w s verdict.Admitted).conflicts) ≡ world_by w s verdict.Admitted =
     subst (λ v. world_told (told (added_by w s v ++ es) (world_by w s v).conflicts) ≡ world_by w s v) e (told_offered es cs s k.sound block) in
     subst (λ (v : World). IsKept v after left (kind_after kept db.history) shut first run) (sym brought) (record {
       parts = record {
@@ -260,7 +262,7 @@ admits es cs db after room left drops spent kept shut first run s k e block h r 
       first_is = k.first_is;
       run_is = k.run_is;
       limit = k.limit ∙ sym limits.history;
-      sound = keeps_by w s k.sound block Takes e;
+      sound = keeps_by w s k.sound block verdict.Admitted e;
     })
 
 -- the blocks that an admission brings

@@ -1,7 +1,8 @@
 -- What an offer leaves, by the rule that decides it.
 use Rattle.std.specs.Prelude.{◌≡◌, ◌++◌, true, false, Result}
 use Rattle.block_record.specs.declared.blocks.Slip.{Slip}
-use Rattle.relay_model.specs.Offers.{Verdict, answer_by, world_by}
+use Rattle.relay_model.specs.Offers.{answer_by, world_by}
+use Rattle.relay_model.specs.Verdicts.{Verdict}
 use Rattle.relay_model.specs.Chronicles.{added_by}
 use Rattle.block_relay.specs.Answers.{IsAnswer, is_mem}
 use Rattle.block_relay.specs.Chronicle.{Told, world_told}

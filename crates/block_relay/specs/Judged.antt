@@ -5,7 +5,9 @@ use Rattle.block_record.specs.declared.blocks.Slip.{Slip}
 use Rattle.relay_model.specs.declared.answers.Conflict.{Conflict as Clash}
 use Rattle.relay_model.specs.declared.answers.ConflictKind.{ConflictKind}
 use Rattle.relay_model.specs.Worlds.{World}
-use Rattle.relay_model.specs.Offers.{Verdict, Shut, Repeats, Clashes, TooEarly, Late, NoRoom, Waits, conflict, judge_limit}
+use Rattle.relay_model.specs.Offers.{conflict, judge_limit}
+use Rattle.relay_model.specs.Verdicts.{Verdict}
+use Rattle.relay_model.specs.Verdicts as verdict
 use Rattle.fork_db.specs.Forks.{Forks}
 use Rattle.wait_room.specs.Rooms.{Room}
 use Rattle.block_relay.specs.declared.judged.Judged.{Judged}
@@ -13,13 +15,13 @@ use Rattle.block_relay.specs.declared.judged.Judged.TheVariants as judged
 
 -- the verdict on an offered block that the code's answer stands for: of a block that links, the limit of the history decides
 abbrev pub verdict_of_judged : World → Slip → Judged → Verdict
-verdict_of_judged w s judged.Shut = Shut
-verdict_of_judged w s judged.Repeats = Repeats
-verdict_of_judged w s (judged.Clashes kind held) = Clashes (conflict kind held.now s)
-verdict_of_judged w s judged.TooEarly = TooEarly
-verdict_of_judged w s judged.Late = Late
-verdict_of_judged w s judged.NoRoom = NoRoom
-verdict_of_judged w s judged.Waits = Waits
+verdict_of_judged w s judged.Shut = verdict.Closed
+verdict_of_judged w s judged.Repeats = verdict.Duplicate
+verdict_of_judged w s (judged.Clashes kind held) = verdict.Conflict (conflict kind held.now s)
+verdict_of_judged w s judged.TooEarly = verdict.Early
+verdict_of_judged w s judged.Late = verdict.Stale
+verdict_of_judged w s judged.NoRoom = verdict.WaitFull
+verdict_of_judged w s judged.Waits = verdict.Waiting
 verdict_of_judged w s (judged.Links parent) = judge_limit w s
 
 -- a block that links has its parent at the place that is told, and none where it is the first

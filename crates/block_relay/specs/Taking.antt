@@ -6,7 +6,8 @@ use Rattle.block_record.specs.declared.blocks.Slip.{Slip}
 use Rattle.chain_model.specs.Ancestry.{find_id, has_id}
 use Rattle.relay_model.specs.declared.answers.Conflict.{Conflict as Clash}
 use Rattle.relay_model.specs.Worlds.{World, descendants, descends}
-use Rattle.relay_model.specs.Offers.{Intake, Takes, judge, take_in}
+use Rattle.relay_model.specs.Offers.{Intake, judge, take_in}
+use Rattle.relay_model.specs.Verdicts as verdict
 use Rattle.relay_model.specs.Soundness.{IsBlock, IsDistinct, IsSound}
 use Rattle.relay_model.proofs.Intakes.{IsTaking}
 use Rattle.fork_db.specs.Forks.{Forks}
@@ -79,7 +80,7 @@ pub record CanStart (db : Forks) (room : Room) (s : Slip) : Type 0 where
   pub parts : HasParts world db room
   pub sound : IsSound world
   pub block : IsBlock s
-  pub takes : judge world s ≡ Takes
+  pub takes : judge world s ≡ verdict.Admitted
 
 -- why there may be no room: the limit of the history, or no memory
 abbrev pub IsRoomFault : OfferFault → Type 0

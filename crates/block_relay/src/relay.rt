@@ -12,7 +12,8 @@ ghost use Rattle.fork_db.specs.Batches.{IsGiven, WasGiven, item_seen};
 ghost use Rattle.relay_look.specs.Answers.{FitsAt, HasBatchOf, IsLook, position_of};
 ghost use Rattle.relay_model.specs.Looks.{looked};
 ghost use Rattle.relay_model.specs.Chronicles.{Kind as KindEntry, Opened, added, kind_added};
-ghost use Rattle.relay_model.specs.Offers.{Clashes, Waits, conflict, judge as judge_in, judge_limit, kind_after, offered};
+ghost use Rattle.relay_model.specs.Offers.{conflict, judge as judge_in, judge_limit, kind_after, offered};
+ghost use Rattle.relay_model.specs.Verdicts as verdict;
 ghost use Rattle.relay_model.specs.Soundness.{IsBlock, IsSound};
 ghost use Rattle.relay_model.specs.Worlds.{usual_size};
 ghost use Rattle.block_relay.specs.Chronicle.{closed_entries, greeted, kind_entry, kind_mark, limits_told, may_greet, world_told};
@@ -343,7 +344,7 @@ impl Relay {
         held: Slip,
         offered: Slip,
     ) -> Result<Offered, OfferFault>
-        ensures { IsDone (Clashes (conflict kind held offered)) offered
+        ensures { IsDone (verdict.Conflict (conflict kind held offered)) offered
             self.old self.new result }
     {
         let told = Conflict {
@@ -376,8 +377,8 @@ impl Relay {
         requires own { IfSome block (λ b. slip ≡ slip_of_block b.value) }
         requires block { IsBlock slip }
         requires payloads { self.old.payloads ≡ Payloads.Kept → is_some block ≡ true }
-        requires waits { judge_in (world_told self.old) slip ≡ Waits }
-        ensures { IsDone Waits slip self.old self.new result }
+        requires waits { judge_in (world_told self.old) slip ≡ verdict.Waiting }
+        ensures { IsDone verdict.Waiting slip self.old self.new result }
     {
         let kept = copy_slip(&slip)?;
         reserve_waiting(&mut self.waited, &mut self.marks)?;

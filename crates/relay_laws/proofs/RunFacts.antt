@@ -18,7 +18,9 @@ use Rattle.std.specs.Str.{bytes_eq}
 use Rattle.std.proofs.lemmas.Slice.Eq.{bytes_eq-Decides}
 use Rattle.block_record.specs.Slips.{same_slip}
 use Rattle.relay_model.specs.Worlds.{World, has_room, descendants}
-use Rattle.relay_model.specs.Offers.{Verdict, Shut, Repeats, Clashes, TooEarly, Late, NoRoom, Waits, Passes, Takes, intake, tip_num, num_of, judge, judge_held, judge_linked, judge_parent, judge_limit, judge_clash, clash, answer_by, world_by, offered}
+use Rattle.relay_model.specs.Offers.{intake, tip_num, num_of, judge, judge_held, judge_linked, judge_parent, judge_limit, judge_clash, clash, answer_by, world_by, offered}
+use Rattle.relay_model.specs.Verdicts.{Verdict}
+use Rattle.relay_model.specs.Verdicts as verdict
 use Rattle.relay_model.specs.Orders.{root_or, root_of, position}
 use Rattle.relay_model.specs.Soundness.{IsBlock}
 use Rattle.relay_model.specs.Runs.{is_ok, dropped_by}
@@ -107,59 +109,59 @@ root_under_tip (s ∷ older) history = go (final_tip (s ∷ older)) refl
         root_least (s ∷ older) history t (claim_found (s ∷ older) history x.by t x.claimed)
 
 -- what a late block is
-limit_late : (w : World) (s : Slip) → judge_limit w s ≡ Late → ⊥
-limit_late w s e = grind (arith, e)
+limit_stale : (w : World) (s : Slip) → judge_limit w s ≡ verdict.Stale → ⊥
+limit_stale w s e = grind (arith, e)
 
-clash_late : (w : World) (s : Slip) (o : Option Clash) → judge_clash w s o ≡ Late → ⊥
-clash_late w s None e = limit_late w s e
-clash_late w s (Some c) e = cc
+clash_stale : (w : World) (s : Slip) (o : Option Clash) → judge_clash w s o ≡ verdict.Stale → ⊥
+clash_stale w s None e = limit_stale w s e
+clash_stale w s (Some c) e = cc
 
-parent_late : (w : World) (s : Slip) (o : Option Slip) → judge_parent w s o ≡ Late → s.num ≤ tip_num w.history
-parent_late w s None e =
+parent_stale : (w : World) (s : Slip) (o : Option Slip) → judge_parent w s o ≡ verdict.Stale → s.num ≤ tip_num w.history
+parent_stale w s None e =
     elim (cases_Bool (leb s.num (tip_num w.history))) [
       | inl low ↦ leb-true _ _ low
       | inr high ↦ absurd (grind (arith, e, high))
     ]
-parent_late w s (Some p) e = absurd (clash_late w s (clash w.history s) e)
+parent_stale w s (Some p) e = absurd (clash_stale w s (clash w.history s) e)
 
-pub record IsLate (w : World) (s : Slip) : Type 0 where
+pub record IsStale (w : World) (s : Slip) : Type 0 where
   pub low : s.num ≤ tip_num w.history
   pub begun : (t : Slip) × (older : List Slip) × (w.history ≡ t ∷ older)
 
-linked_late : (w : World) (s : Slip) → IsHistory w.history → (h : List Slip) → w.history ≡ h → judge_linked w s h ≡ Late → IsLate w s
-linked_late w s history [] is e = absurd (limit_late w s e)
-linked_late w s history (t ∷ older) is e =
+linked_stale : (w : World) (s : Slip) → IsHistory w.history → (h : List Slip) → w.history ≡ h → judge_linked w s h ≡ verdict.Stale → IsStale w s
+linked_stale w s history [] is e = absurd (limit_stale w s e)
+linked_stale w s history (t ∷ older) is e =
     elim (cases_Bool (leb s.num (root_num w.history))) [
       | inl low ↦ let le = leb-true _ _ low in let up = root_under_tip w.history history in record { low = omega (arith, le, up); begun = (t, older, is) }
-      | inr high ↦ record { low = parent_late w s (find_id w.history s.parent_id) (rw high at e); begun = (t, older, is) }
+      | inr high ↦ record { low = parent_stale w s (find_id w.history s.parent_id) (rw high at e); begun = (t, older, is) }
     ]
 
-held_late : (w : World) (s : Slip) → IsHistory w.history → (o : Option Slip) → judge_held w s o ≡ Late → IsLate w s
-held_late w s history (Some h) e = absurd (grind (arith, e))
-held_late w s history None e =
+held_stale : (w : World) (s : Slip) → IsHistory w.history → (o : Option Slip) → judge_held w s o ≡ verdict.Stale → IsStale w s
+held_stale w s history (Some h) e = absurd (grind (arith, e))
+held_stale w s history None e =
     elim (cases_Bool (ltb s.num w.first)) [
       | inl low ↦ absurd (grind (arith, e, low))
-      | inr high ↦ linked_late w s history w.history refl (rw high at e)
+      | inr high ↦ linked_stale w s history w.history refl (rw high at e)
     ]
 
-pub judged_late : (w : World) (s : Slip) → IsHistory w.history → judge w s ≡ Late → IsLate w s
-judged_late w s history e =
+pub judged_stale : (w : World) (s : Slip) → IsHistory w.history → judge w s ≡ verdict.Stale → IsStale w s
+judged_stale w s history e =
     elim (cases_Bool w.closed) [
       | inl shut ↦ absurd (grind (arith, e, shut))
-      | inr open' ↦ held_late w s history (find_id (w.waiting ++ w.history) s.id) (rw open' at e)
+      | inr open' ↦ held_stale w s history (find_id (w.waiting ++ w.history) s.id) (rw open' at e)
     ]
 
 -- a block whose id is new and whose number is not too low is answered by the later rules
 abbrev is_inner : Verdict → Bool
-is_inner Shut = false
-is_inner Repeats = false
-is_inner (Clashes c) = true
-is_inner TooEarly = false
-is_inner Late = true
-is_inner NoRoom = true
-is_inner Waits = true
-is_inner (Passes need) = true
-is_inner Takes = true
+is_inner verdict.Closed = false
+is_inner verdict.Duplicate = false
+is_inner (verdict.Conflict c) = true
+is_inner verdict.Early = false
+is_inner verdict.Stale = true
+is_inner verdict.WaitFull = true
+is_inner verdict.Waiting = true
+is_inner (verdict.HistoryFull need) = true
+is_inner verdict.Admitted = true
 
 inner_limit : (w : World) (s : Slip) → is_inner (judge_limit w s) ≡ true
 inner_limit w s = elim (cases_Bool (leb (length w.history + (1 + descendants w.waiting s.id)) w.limits.history)) [ inl fits ↦ rw fits refl | inr more ↦ rw more refl ]
@@ -188,10 +190,10 @@ not_inner : (v u : Verdict) → is_inner v ≡ true → is_inner u ≡ false →
 not_inner v u a b e = both_ways _ (ap is_inner e ∙ b) a
 
 -- an early one
-linked_early : (w : World) (s : Slip) (h : List Slip) → judge_linked w s h ≡ TooEarly → ⊥
-linked_early w s h e = not_inner _ TooEarly (inner_linked w s h) refl e
+linked_early : (w : World) (s : Slip) (h : List Slip) → judge_linked w s h ≡ verdict.Early → ⊥
+linked_early w s h e = not_inner _ verdict.Early (inner_linked w s h) refl e
 
-held_early : (w : World) (s : Slip) (o : Option Slip) → judge_held w s o ≡ TooEarly → s.num < w.first
+held_early : (w : World) (s : Slip) (o : Option Slip) → judge_held w s o ≡ verdict.Early → s.num < w.first
 held_early w s (Some h) e = absurd (grind (arith, e))
 held_early w s None e =
     elim (cases_Bool (ltb s.num w.first)) [
@@ -199,7 +201,7 @@ held_early w s None e =
       | inr high ↦ absurd (linked_early w s w.history (rw high at e))
     ]
 
-pub judged_early : (w : World) (s : Slip) → judge w s ≡ TooEarly → s.num < w.first
+pub judged_early : (w : World) (s : Slip) → judge w s ≡ verdict.Early → s.num < w.first
 judged_early w s e =
     elim (cases_Bool w.closed) [
       | inl shut ↦ absurd (grind (arith, e, shut))
@@ -207,14 +209,14 @@ judged_early w s e =
     ]
 
 -- and a repeat
-judged_repeats : (w : World) (s : Slip) → judge w s ≡ Repeats → IsFound (w.waiting ++ w.history) s
-judged_repeats w s e =
+judged_duplicate : (w : World) (s : Slip) → judge w s ≡ verdict.Duplicate → IsFound (w.waiting ++ w.history) s
+judged_duplicate w s e =
     elim (cases_Bool w.closed) [
       | inl shut ↦ absurd (grind (arith, e, shut))
       | inr open' ↦ go (find_id (w.waiting ++ w.history) s.id) refl (rw open' at e)
     ]
   where
-    go : (o : Option Slip) → find_id (w.waiting ++ w.history) s.id ≡ o → judge_held w s o ≡ Repeats → IsFound (w.waiting ++ w.history) s
+    go : (o : Option Slip) → find_id (w.waiting ++ w.history) s.id ≡ o → judge_held w s o ≡ verdict.Duplicate → IsFound (w.waiting ++ w.history) s
     go (Some h) held e' =
         elim (cases_Bool (same_slip h s)) [
           | inl same ↦ held ∙ ap (λ x. Some x) (same_slip_is h s same)
@@ -223,7 +225,7 @@ judged_repeats w s e =
     go None held e' =
         elim (cases_Bool (ltb s.num w.first)) [
           | inl low ↦ absurd (grind (arith, e', low))
-          | inr high ↦ absurd (not_inner _ Repeats (inner_linked w s w.history) refl (rw high at e'))
+          | inr high ↦ absurd (not_inner _ verdict.Duplicate (inner_linked w s w.history) refl (rw high at e'))
         ]
 
 found_append : (xs ys : List Slip) (x : Slip) → IsFound (xs ++ ys) x → IsFound xs x ⊎ IsFound ys x
@@ -263,8 +265,8 @@ root_begun w old new s step is begun =
 found_longer : (more older : List Slip) → IsHistory (more ++ older) → (x : Slip) → IsFound older x → IsFound (more ++ older) x
 found_longer more older history x f = find_later more older history x.id (has_id-find_id older x.id x f) ∙ f
 
-step_takes : (w : World) (old new : List Slip) (s : Slip) → IsRun w old → IsStep w.first old new s → IsBlock s → judge w s ≡ Takes
-    → (intake w s).dropped ≡ [] → IsRun (world_by w s Takes) new
+step_takes : (w : World) (old new : List Slip) (s : Slip) → IsRun w old → IsStep w.first old new s → IsBlock s → judge w s ≡ verdict.Admitted
+    → (intake w s).dropped ≡ [] → IsRun (world_by w s verdict.Admitted) new
 step_takes w old new s run step block e dropped =
     let d = intake w s in
     let begun = first_intake w s in
@@ -279,7 +281,7 @@ step_takes w old new s run step block e dropped =
     subst (λ (l : List Slip). tip_num w.history ≤ tip_num l) grown.1 (tip_rises grown.0 w.history (subst IsHistory (sym grown.1) t.history)) in
     let ends : last_of d.history ≡ last_of (s ∷ w.history) = ap last_of (sym longer.1) ∙ last_append longer.0 s w.history in
     record {
-      sound = keeps_by w s run.sound block Takes e;
+      sound = keeps_by w s run.sound block verdict.Admitted e;
       in_history = λ x f. elim (m.from x f) [
         | inl h ↦ elim (found_cases s w.history x h) [ inl same ↦ subst (IsFound new) same step.has | inr was ↦ step.keeps x (run.in_history x was) ]
         | inr r ↦ step.keeps x (run.in_waiting x r)
@@ -317,11 +319,11 @@ step_takes w old new s run step block e dropped =
         grows ∙ root_stays (root_of w.first old) r.0 w.first s (was ∙ e') ∙ sym (ap (λ l. last_of (s ∷ l)) is ∙ r.1)
 
 -- a block waits only where the history has begun
-begun_linked : (w : World) (s : Slip) (h : List Slip) → w.history ≡ h → judge_linked w s h ≡ Waits → (t : Slip) × (older : List Slip) × (w.history ≡ t ∷ older)
+begun_linked : (w : World) (s : Slip) (h : List Slip) → w.history ≡ h → judge_linked w s h ≡ verdict.Waiting → (t : Slip) × (older : List Slip) × (w.history ≡ t ∷ older)
 begun_linked w s [] is e = absurd (limit_takes w s e)
 begun_linked w s (t ∷ older) is e = (t, older, is)
 
-begun_held : (w : World) (s : Slip) (o : Option Slip) → judge_held w s o ≡ Waits → (t : Slip) × (older : List Slip) × (w.history ≡ t ∷ older)
+begun_held : (w : World) (s : Slip) (o : Option Slip) → judge_held w s o ≡ verdict.Waiting → (t : Slip) × (older : List Slip) × (w.history ≡ t ∷ older)
 begun_held w s (Some h) e = absurd (grind (arith, e))
 begun_held w s None e =
     elim (cases_Bool (ltb s.num w.first)) [
@@ -329,7 +331,7 @@ begun_held w s None e =
       | inr high ↦ begun_linked w s w.history refl (rw high at e)
     ]
 
-begun_waits : (w : World) (s : Slip) → judge w s ≡ Waits → (t : Slip) × (older : List Slip) × (w.history ≡ t ∷ older)
+begun_waits : (w : World) (s : Slip) → judge w s ≡ verdict.Waiting → (t : Slip) × (older : List Slip) × (w.history ≡ t ∷ older)
 begun_waits w s e =
     elim (cases_Bool w.closed) [
       | inl shut ↦ absurd (grind (arith, e, shut))
@@ -338,9 +340,9 @@ begun_waits w s e =
 
 step_by : (w : World) (old new : List Slip) (s : Slip) → IsRun w old → IsStep w.first old new s → IsBlock s → (v : Verdict) → judge w s ≡ v
     → is_ok (answer_by w s v) ≡ true → dropped_by (answer_by w s v) ≡ [] → IsRun (world_by w s v) new
-step_by w old new s run step block Shut e ok dropped = absurd (grind (arith, ok))
-step_by w old new s run step block Repeats e ok dropped =
-    let held : IsFound old s = elim (found_append w.waiting w.history s (judged_repeats w s e)) [ inl r ↦ run.in_waiting s r | inr h ↦ run.in_history s h ] in
+step_by w old new s run step block verdict.Closed e ok dropped = absurd (grind (arith, ok))
+step_by w old new s run step block verdict.Duplicate e ok dropped =
+    let held : IsFound old s = elim (found_append w.waiting w.history s (judged_duplicate w s e)) [ inl r ↦ run.in_waiting s r | inr h ↦ run.in_history s h ] in
     let here : Where w s = run.rest s held in
     record {
       sound = run.sound;
@@ -349,8 +351,8 @@ step_by w old new s run step block Repeats e ok dropped =
       rest = λ x f. elim (step.from x f) [ inl same ↦ subst (Where w) (sym same) here | inr was ↦ run.rest x was ];
       root = step.again held ∙ run.root;
     }
-step_by w old new s run step block (Clashes c) e ok dropped = absurd (grind (arith, ok))
-step_by w old new s run step block TooEarly e ok dropped =
+step_by w old new s run step block (verdict.Conflict c) e ok dropped = absurd (grind (arith, ok))
+step_by w old new s run step block verdict.Early e ok dropped =
     let low = judged_early w s e in
     record {
       sound = run.sound;
@@ -359,8 +361,8 @@ step_by w old new s run step block TooEarly e ok dropped =
       rest = λ x f. elim (step.from x f) [ inl same ↦ subst (Where w) (sym same) (inl low) | inr was ↦ run.rest x was ];
       root = step.root ∙ root_early (root_of w.first old) w.first s low ∙ run.root;
     }
-step_by w old new s run step block Late e ok dropped =
-    let late = judged_late w s run.sound.history e in
+step_by w old new s run step block verdict.Stale e ok dropped =
+    let late = judged_stale w s run.sound.history e in
     record {
       sound = run.sound;
       in_history = λ x f. step.keeps x (run.in_history x f);
@@ -368,14 +370,14 @@ step_by w old new s run step block Late e ok dropped =
       rest = λ x f. elim (step.from x f) [ inl same ↦ subst (Where w) (sym same) (inr (inr (inr late.low))) | inr was ↦ run.rest x was ];
       root = root_begun w old new s step run.root late.begun;
     }
-step_by w old new s run step block NoRoom e ok dropped = absurd (grind (arith, ok))
-step_by w old new s run step block Waits e ok dropped =
+step_by w old new s run step block verdict.WaitFull e ok dropped = absurd (grind (arith, ok))
+step_by w old new s run step block verdict.Waiting e ok dropped =
     let facts = judged_waits w s e in
     let new' = new_parts w s facts.new in
     let more = λ (x : Slip) (f : IsFound w.waiting x).
     find_id_past s w.waiting x.id (other x f new'.0) ∙ f in
     record {
-      sound = keeps_by w s run.sound block Waits e;
+      sound = keeps_by w s run.sound block verdict.Waiting e;
       in_history = λ x f. step.keeps x (run.in_history x f);
       in_waiting = λ x f. elim (found_cases s w.waiting x f) [ inl same ↦ subst (IsFound new) same step.has | inr was ↦ step.keeps x (run.in_waiting x was) ];
       rest = λ x f. elim (step.from x f) [
@@ -392,8 +394,8 @@ step_by w old new s run step block Waits e ok dropped =
   where
     other : (x : Slip) → IsFound w.waiting x → has_id w.waiting s.id ≡ false → same_id s.id x.id ≡ false
     other x f lacks = false_from_ne_true _ (λ same. both_ways _ (subst (λ (i : List ℕ). has_id w.waiting i ≡ false) (same_id-true s.id x.id same) lacks) (has_id-find_id w.waiting x.id x f))
-step_by w old new s run step block (Passes need) e ok dropped = absurd (grind (arith, ok))
-step_by w old new s run step block Takes e ok dropped = step_takes w old new s run step block e (empty (intake w s).dropped dropped)
+step_by w old new s run step block (verdict.HistoryFull need) e ok dropped = absurd (grind (arith, ok))
+step_by w old new s run step block verdict.Admitted e ok dropped = step_takes w old new s run step block e (empty (intake w s).dropped dropped)
   where
     empty : (xs : List Clash) → reverse xs ≡ [] → xs ≡ []
     empty xs h = sym (reverse-reverse xs) ∙ ap reverse h

@@ -11,7 +11,9 @@ use Rattle.relay_laws.proofs.EitherTest.{or_right}
 use Rattle.relay_model.specs.declared.answers.Conflict.{Conflict as Clash}
 use Rattle.block_record.specs.Slips.{same_slip}
 use Rattle.relay_model.specs.Worlds.{World, Limits}
-use Rattle.relay_model.specs.Offers.{Verdict, Shut, Repeats, Clashes, TooEarly, Late, NoRoom, Waits, Passes, Takes, judge, answer_by, world_by, offered}
+use Rattle.relay_model.specs.Offers.{judge, answer_by, world_by, offered}
+use Rattle.relay_model.specs.Verdicts.{Verdict}
+use Rattle.relay_model.specs.Verdicts as verdict
 use Rattle.relay_model.specs.Orders.{once, root_or, root_of, position}
 use Rattle.relay_model.specs.Runs.{empty_world, run, is_ok, taken, dropped_by, dropped, OneEach}
 use Rattle.relay_model.specs.Soundness.{IsBlock}
@@ -129,15 +131,15 @@ rest_one xs s one = go (list_any (same_slip s) xs) one
 
 -- a refusal leaves the run as it was
 refused_by : (w : World) (old : List Slip) (s : Slip) → IsRun w old → IsBlock s → (v : Verdict) → judge w s ≡ v → is_ok (answer_by w s v) ≡ false → IsRun (world_by w s v) old
-refused_by w old s r block Shut e no' = r
-refused_by w old s r block Repeats e no' = r
-refused_by w old s r block (Clashes c) e no' = record { sound = keeps_by w s r.sound block (Clashes c) e; in_history = r.in_history; in_waiting = r.in_waiting; rest = r.rest; root = r.root }
-refused_by w old s r block TooEarly e no' = r
-refused_by w old s r block Late e no' = r
-refused_by w old s r block NoRoom e no' = r
-refused_by w old s r block Waits e no' = absurd (grind (arith, no'))
-refused_by w old s r block (Passes need) e no' = r
-refused_by w old s r block Takes e no' = absurd (grind (arith, no'))
+refused_by w old s r block verdict.Closed e no' = r
+refused_by w old s r block verdict.Duplicate e no' = r
+refused_by w old s r block (verdict.Conflict c) e no' = record { sound = keeps_by w s r.sound block (verdict.Conflict c) e; in_history = r.in_history; in_waiting = r.in_waiting; rest = r.rest; root = r.root }
+refused_by w old s r block verdict.Early e no' = r
+refused_by w old s r block verdict.Stale e no' = r
+refused_by w old s r block verdict.WaitFull e no' = r
+refused_by w old s r block verdict.Waiting e no' = absurd (grind (arith, no'))
+refused_by w old s r block (verdict.HistoryFull need) e no' = r
+refused_by w old s r block verdict.Admitted e no' = absurd (grind (arith, no'))
 
 pub empty_both : (xs ys : List Clash) → xs ++ ys ≡ [] → (xs ≡ []) × (ys ≡ [])
 empty_both [] ys e = (refl, e)
@@ -173,15 +175,15 @@ run_of first number limits (s ∷ earlier) blocks none one =
     go false no' none' one' ih = refused_by W (once T) s (ih one') blocks.0 (judge W s) refl no'
 
 first_by : (w : World) (s : Slip) (v : Verdict) → (world_by w s v).first ≡ w.first
-first_by w s Shut = refl
-first_by w s Repeats = refl
-first_by w s (Clashes c) = refl
-first_by w s TooEarly = refl
-first_by w s Late = refl
-first_by w s NoRoom = refl
-first_by w s Waits = refl
-first_by w s (Passes need) = refl
-first_by w s Takes = refl
+first_by w s verdict.Closed = refl
+first_by w s verdict.Duplicate = refl
+first_by w s (verdict.Conflict c) = refl
+first_by w s verdict.Early = refl
+first_by w s verdict.Stale = refl
+first_by w s verdict.WaitFull = refl
+first_by w s verdict.Waiting = refl
+first_by w s (verdict.HistoryFull need) = refl
+first_by w s verdict.Admitted = refl
 
 pub run_first : (w : World) (offers : List Slip) → (run w offers).first ≡ w.first
 run_first w [] = refl

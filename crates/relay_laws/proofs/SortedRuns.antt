@@ -18,7 +18,9 @@ use Rattle.chain_laws.proofs.Later.{ancestry_later, find_later}
 use Rattle.relay_model.specs.Worlds.{World, Limits}
 use Rattle.relay_model.specs.declared.answers.Conflict.{Conflict as Clash}
 use Rattle.std.proofs.lemmas.List.{reverse-reverse}
-use Rattle.relay_model.specs.Offers.{Verdict, Shut, Repeats, Clashes, TooEarly, Late, NoRoom, Waits, Passes, Takes, intake, judge, world_by, answer_by, tip_num, num_of, offered}
+use Rattle.relay_model.specs.Offers.{intake, judge, world_by, answer_by, tip_num, num_of, offered}
+use Rattle.relay_model.specs.Verdicts.{Verdict}
+use Rattle.relay_model.specs.Verdicts as verdict
 use Rattle.relay_model.specs.Orders.{position, link_time, root_of, once}
 use Rattle.relay_model.specs.Soundness.{IsBlock}
 use Rattle.relay_model.specs.Runs.{is_ok, dropped_by, OneEach, empty_world, run, taken, dropped}
@@ -72,7 +74,7 @@ record IsAdmission (w : World) (old new : List Slip) (s : Slip) (F : List Slip) 
   there : IsFound F s
   above : Pairs (Above new) front
 
-new_part : (w : World) (old new : List Slip) (s : Slip) → IsRun w old → IsBlock s → judge w s ≡ Takes → IsNewPart (intake w s).history w.history s
+new_part : (w : World) (old new : List Slip) (s : Slip) → IsRun w old → IsBlock s → judge w s ≡ verdict.Admitted → IsNewPart (intake w s).history w.history s
 new_part w old new s run block e =
     let facts = judged_takes w s e in
     let t0 = starts w s run.sound block facts in
@@ -97,7 +99,7 @@ new_part w old new s run block e =
         last_has a [] z k = let same = same_Some a z k in rw (ap (λ (v : Slip). v.id) same, same_id_refl z.id) refl
         last_has a (b ∷ bs) z k = let r = last_has b bs z k in grind (arith, r)
 
-honest_all : (w : World) (old : List Slip) (s : Slip) → IsRun w old → IsBlock s → judge w s ≡ Takes → (intake w s).dropped ≡ [] → AllByRecursion (Honest (intake w s).history) w.waiting
+honest_all : (w : World) (old : List Slip) (s : Slip) → IsRun w old → IsBlock s → judge w s ≡ verdict.Admitted → (intake w s).dropped ≡ [] → AllByRecursion (Honest (intake w s).history) w.waiting
 honest_all w old s run block e dropped =
     all_weaker (IsFound w.waiting) (Honest (intake w s).history) (λ y f. honest y f) w.waiting (distinct_found w.waiting run.sound.distinct)
   where
@@ -132,7 +134,7 @@ honest_all w old s run block e dropped =
                 let one : q ≡ x = same_Some q x (sym p.named ∙ ap (find_id F) (sym (same_id-true x.id y.parent_id child)) ∙ fx) in
                 subst (λ (v : Slip). v.num < y.num) one p.less
 
-drained : (w : World) (old new : List Slip) (s : Slip) → IsRun w old → IsStep w.first old new s → IsBlock s → judge w s ≡ Takes → (intake w s).dropped ≡ [] → Pairs (Later old) w.waiting
+drained : (w : World) (old new : List Slip) (s : Slip) → IsRun w old → IsStep w.first old new s → IsBlock s → judge w s ≡ verdict.Admitted → (intake w s).dropped ≡ [] → Pairs (Later old) w.waiting
     → (l : Slip) × IsDraining new w.history (intake w s) l
 drained w old new s run step block e dropped places =
     let honest = honest_all w old s run block e dropped in
@@ -158,7 +160,7 @@ no_tip [] h x f k = grind (arith, f)
 no_tip (z ∷ zs) h x f k = has_tip z zs h k
 
 -- the new blocks of a repeat are off the tip
-off_tip : (w : World) (old new : List Slip) (s : Slip) → IsRun w old → IsBlock s → judge w s ≡ Takes → IsFound old s → (front : List Slip) → IsHistory (front ++ w.history) → ClaimsAgree (front ++ w.history)
+off_tip : (w : World) (old new : List Slip) (s : Slip) → IsRun w old → IsBlock s → judge w s ≡ verdict.Admitted → IsFound old s → (front : List Slip) → IsHistory (front ++ w.history) → ClaimsAgree (front ++ w.history)
     → IsNewPart (front ++ w.history) w.history s → IsFound (front ++ w.history) s → AllByRecursion (λ x. holds_tip (front ++ w.history) (final_tip (front ++ w.history)) x ≡ false) front
 off_tip w old new s run block e again front history agreed part there =
     all_weaker (λ x. IsFound (front ++ w.history) x × (has_id w.history x.id ≡ false)) (λ x. holds_tip (front ++ w.history) (final_tip (front ++ w.history)) x ≡ false)
@@ -206,8 +208,8 @@ off_tip w old new s run block e again front history agreed part there =
               both_ways _ new_s.1 (has_id-ancestry w.history t.id s.id old_line)
         ]
 
-takes_sorted : (w : World) (old new : List Slip) (s : Slip) → IsRun w old → IsDistinct old → IsStep w.first old new s → IsBlock s → judge w s ≡ Takes → (intake w s).dropped ≡ []
-    → IsRun (world_by w s Takes) new → IsSorted w old → (l : Slip) × IsDraining new w.history (intake w s) l → IsSorted (world_by w s Takes) new
+takes_sorted : (w : World) (old new : List Slip) (s : Slip) → IsRun w old → IsDistinct old → IsStep w.first old new s → IsBlock s → judge w s ≡ verdict.Admitted → (intake w s).dropped ≡ []
+    → IsRun (world_by w s verdict.Admitted) new → IsSorted w old → (l : Slip) × IsDraining new w.history (intake w s) l → IsSorted (world_by w s verdict.Admitted) new
 takes_sorted w old new s run d step block e dropped after h all = record {
   places = pairs_filter (Later new) (λ (x : Slip). ltb (tip_num (intake w s).history) x.num) (intake w s).waiting all.1.places;
   order = λ root last. ordered (all.0 ∷ all.1.rest) all.1.is all.1.pairs root last;
@@ -237,11 +239,11 @@ takes_sorted w old new s run d step block e dropped after h all = record {
 
     front_times : position new s ≡ length old → (root : Slip) → last_of (intake w s).history ≡ Some root → (x : Slip) → IsFound (intake w s).history x → has_id w.history x.id ≡ false → (time : ℕ) → link_time new root x ≡ Some time → time ≡ N
     front_times at root last x fx nx =
-        let b : IsBegun (world_by w s Takes) new root = record { run = after; distinct = step.distinct; last = last } in
+        let b : IsBegun (world_by w s verdict.Admitted) new root = record { run = after; distinct = step.distinct; last = last } in
         new_time (intake w s).history w.history new s root part step.distinct there after.in_history
         (λ y f. let l = low_new at y f in omega (arith, l))
         (λ y time f k. let l = time_low new step.distinct root (suc N) (low_new at) (suc y.num) y time (omega arith) f k in omega (arith, l))
-        (λ y f. scratch_linked (world_by w s Takes) new root b y f) x fx nx
+        (λ y f. scratch_linked (world_by w s verdict.Admitted) new root b y f) x fx nx
 
     old_times : position new s ≡ length old → (root : Slip) → last_of w.history ≡ Some root → AllByRecursion (λ y. (time : ℕ) → link_time new root y ≡ Some time → time < N) w.history
     old_times at root last =
@@ -284,13 +286,13 @@ takes_sorted w old new s run d step block e dropped after h all = record {
 
 step_sorted : (w : World) (old new : List Slip) (s : Slip) → IsRun w old → IsDistinct old → IsStep w.first old new s → IsBlock s → (v : Verdict) → judge w s ≡ v
     → is_ok (answer_by w s v) ≡ true → dropped_by (answer_by w s v) ≡ [] → IsRun (world_by w s v) new → IsSorted w old → IsSorted (world_by w s v) new
-step_sorted w old new s run d step block Shut e ok none after h = absurd (grind (arith, ok))
-step_sorted w old new s run d step block Repeats e ok none after h = same_sorted_by w old new s run d step h
-step_sorted w old new s run d step block (Clashes c) e ok none after h = absurd (grind (arith, ok))
-step_sorted w old new s run d step block TooEarly e ok none after h = same_sorted_by w old new s run d step h
-step_sorted w old new s run d step block Late e ok none after h = same_sorted_by w old new s run d step h
-step_sorted w old new s run d step block NoRoom e ok none after h = absurd (grind (arith, ok))
-step_sorted w old new s run d step block Waits e ok none after h =
+step_sorted w old new s run d step block verdict.Closed e ok none after h = absurd (grind (arith, ok))
+step_sorted w old new s run d step block verdict.Duplicate e ok none after h = same_sorted_by w old new s run d step h
+step_sorted w old new s run d step block (verdict.Conflict c) e ok none after h = absurd (grind (arith, ok))
+step_sorted w old new s run d step block verdict.Early e ok none after h = same_sorted_by w old new s run d step h
+step_sorted w old new s run d step block verdict.Stale e ok none after h = same_sorted_by w old new s run d step h
+step_sorted w old new s run d step block verdict.WaitFull e ok none after h = absurd (grind (arith, ok))
+step_sorted w old new s run d step block verdict.Waiting e ok none after h =
     let g = same_sorted_by w old new s run d step h in
     record { places = (newest step.fresh, g.places); order = g.order }
   where
@@ -310,8 +312,8 @@ step_sorted w old new s run d step block Waits e ok none after h =
         low (inr (inl f)) = both_ways _ (new_parts w s facts.new).1 (has_id-find_id w.history s.id s f)
         low (inr (inr (inl f))) = both_ways _ (new_parts w s facts.new).0 (has_id-find_id w.waiting s.id s f)
         low (inr (inr (inr le))) = let a = facts.above in omega (arith, le, a)
-step_sorted w old new s run d step block (Passes need) e ok none after h = absurd (grind (arith, ok))
-step_sorted w old new s run d step block Takes e ok none after h =
+step_sorted w old new s run d step block (verdict.HistoryFull need) e ok none after h = absurd (grind (arith, ok))
+step_sorted w old new s run d step block verdict.Admitted e ok none after h =
     let dropped = empty (intake w s).dropped none in
     takes_sorted w old new s run d step block e dropped after h (drained w old new s run step block e dropped h.places)
   where
@@ -319,15 +321,15 @@ step_sorted w old new s run d step block Takes e ok none after h =
     empty xs k = sym (reverse-reverse xs) ∙ ap reverse k
 
 refused_sorted : (w : World) (old : List Slip) (s : Slip) → IsSorted w old → (v : Verdict) → is_ok (answer_by w s v) ≡ false → IsSorted (world_by w s v) old
-refused_sorted w old s h Shut no' = h
-refused_sorted w old s h Repeats no' = h
-refused_sorted w old s h (Clashes c) no' = record { places = h.places; order = h.order }
-refused_sorted w old s h TooEarly no' = h
-refused_sorted w old s h Late no' = h
-refused_sorted w old s h NoRoom no' = h
-refused_sorted w old s h Waits no' = absurd (grind (arith, no'))
-refused_sorted w old s h (Passes need) no' = h
-refused_sorted w old s h Takes no' = absurd (grind (arith, no'))
+refused_sorted w old s h verdict.Closed no' = h
+refused_sorted w old s h verdict.Duplicate no' = h
+refused_sorted w old s h (verdict.Conflict c) no' = record { places = h.places; order = h.order }
+refused_sorted w old s h verdict.Early no' = h
+refused_sorted w old s h verdict.Stale no' = h
+refused_sorted w old s h verdict.WaitFull no' = h
+refused_sorted w old s h verdict.Waiting no' = absurd (grind (arith, no'))
+refused_sorted w old s h (verdict.HistoryFull need) no' = h
+refused_sorted w old s h verdict.Admitted no' = absurd (grind (arith, no'))
 
 pub sorted_of : (first number : ℕ) (limits : Limits) (offers : List Slip) → AllByRecursion IsBlock offers → dropped (empty_world first number limits) offers ≡ []
     → OneEach (once (taken (empty_world first number limits) offers)) → IsSorted (run (empty_world first number limits) offers) (once (taken (empty_world first number limits) offers))

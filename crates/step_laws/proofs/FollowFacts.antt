@@ -21,7 +21,9 @@ use Rattle.chain_laws.proofs.Starts.{start}
 use Rattle.chain_laws.proofs.Ends.{walk_along, walk_under, fold_along, place_reached}
 use Rattle.relay_model.specs.Worlds.{World}
 use Rattle.relay_model.specs.Soundness.{IsBlock, IsSound}
-use Rattle.relay_model.specs.Offers.{Verdict, Shut, Repeats, Clashes, TooEarly, Late, NoRoom, Waits, Passes, Takes, judge, intake, answer_by, world_by, offered}
+use Rattle.relay_model.specs.Offers.{judge, intake, answer_by, world_by, offered}
+use Rattle.relay_model.specs.Verdicts.{Verdict}
+use Rattle.relay_model.specs.Verdicts as verdict
 use Rattle.relay_model.proofs.Intakes.{taking_grows}
 use Rattle.relay_model.proofs.Sound.{first_intake, offer_keeps}
 use Rattle.step_text.specs.declared.refusals.Refusal.{Refusal}
@@ -120,17 +122,17 @@ follows_head w after base place more is history agreed fits under =
 moves_by : (w : World) (s : Slip) (base : Option BlockRef) (place : Place) → PlaceFits w.history place.end place.lib → IsUnder w.history base place.lib
     → (v : Verdict) → IsSound (world_by w s v)
     → Moves w (world_by w s v) base place (place_by (answer_by w s v) (world_by w s v).history place) (steps_by (answer_by w s v) (world_by w s v).history place)
-moves_by w s base place fits under Shut sound = stays w w base place refl fits under
-moves_by w s base place fits under Repeats sound = stays w w base place refl fits under
-moves_by w s base place fits under (Clashes c) sound = stays w (world_by w s (Clashes c)) base place refl fits under
-moves_by w s base place fits under TooEarly sound = stays w w base place refl fits under
-moves_by w s base place fits under Late sound = stays w w base place refl fits under
-moves_by w s base place fits under NoRoom sound = stays w w base place refl fits under
-moves_by w s base place fits under Waits sound = stays w (world_by w s Waits) base place refl fits under
-moves_by w s base place fits under (Passes need) sound = stays w w base place refl fits under
-moves_by w s base place fits under Takes sound =
+moves_by w s base place fits under verdict.Closed sound = stays w w base place refl fits under
+moves_by w s base place fits under verdict.Duplicate sound = stays w w base place refl fits under
+moves_by w s base place fits under (verdict.Conflict c) sound = stays w (world_by w s (verdict.Conflict c)) base place refl fits under
+moves_by w s base place fits under verdict.Early sound = stays w w base place refl fits under
+moves_by w s base place fits under verdict.Stale sound = stays w w base place refl fits under
+moves_by w s base place fits under verdict.WaitFull sound = stays w w base place refl fits under
+moves_by w s base place fits under verdict.Waiting sound = stays w (world_by w s verdict.Waiting) base place refl fits under
+moves_by w s base place fits under (verdict.HistoryFull need) sound = stays w w base place refl fits under
+moves_by w s base place fits under verdict.Admitted sound =
     let grown = offer_grows_by in
-    follows_head w (world_by w s Takes) base place grown.0 grown.1 sound.history sound.agreed fits under
+    follows_head w (world_by w s verdict.Admitted) base place grown.0 grown.1 sound.history sound.agreed fits under
   where
     offer_grows_by : IsSuffix w.history (intake w s).history
     offer_grows_by = IsSuffix-trans (s ∷ [], refl) (taking_grows (length w.waiting) (first_intake w s))

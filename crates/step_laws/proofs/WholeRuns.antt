@@ -9,7 +9,9 @@ use Rattle.chain_model.specs.Finality.{root_num}
 use Rattle.chain_model.specs.Steps.{plain_of}
 use Rattle.relay_model.specs.declared.answers.Conflict.{Conflict as Clash}
 use Rattle.relay_model.specs.Worlds.{World}
-use Rattle.relay_model.specs.Offers.{Answer, Closed, Duplicate, Conflict, Early, Stale, WaitFull, Waiting, HistoryFull, Admitted, offered, Verdict, Shut, Repeats, Clashes, TooEarly, Late, NoRoom, Waits, Passes, Takes, clash, judge_limit, judge_clash, judge_parent, judge_linked, judge_held, judge, answer_by, world_by}
+use Rattle.relay_model.specs.Offers.{Answer, Closed, Duplicate, Conflict, Early, Stale, WaitFull, Waiting, HistoryFull, Admitted, offered, clash, judge_limit, judge_clash, judge_parent, judge_linked, judge_held, judge, answer_by, world_by}
+use Rattle.relay_model.specs.Verdicts.{Verdict}
+use Rattle.relay_model.specs.Verdicts as verdict
 use Rattle.relay_model.specs.Runs.{run, is_ok, taken, dropped_by, dropped}
 use Rattle.step_text.specs.declared.refusals.Refusal.{Refusal}
 use Rattle.step_text.specs.StepText.{first_clash, refusal_of, steps_by, place_by, goes_on, step_lines, tell}
@@ -45,18 +47,18 @@ none_dropped (Admitted from count dropped) e = go dropped e
     go (c ∷ cs) h = absurd (cc)
 
 -- a relay that is not closed answers no block that it is
-limit_open : (w : World) (s : Slip) → judge_limit w s ≡ Shut → ⊥
+limit_open : (w : World) (s : Slip) → judge_limit w s ≡ verdict.Closed → ⊥
 limit_open w s e = grind (arith, e)
 
-clash_open : (w : World) (s : Slip) (o : Option Clash) → judge_clash w s o ≡ Shut → ⊥
+clash_open : (w : World) (s : Slip) (o : Option Clash) → judge_clash w s o ≡ verdict.Closed → ⊥
 clash_open w s None e = limit_open w s e
 clash_open w s (Some c) e = cc
 
-parent_open : (w : World) (s : Slip) (o : Option Slip) → judge_parent w s o ≡ Shut → ⊥
+parent_open : (w : World) (s : Slip) (o : Option Slip) → judge_parent w s o ≡ verdict.Closed → ⊥
 parent_open w s None e = grind (arith, e)
 parent_open w s (Some p) e = clash_open w s (clash w.history s) e
 
-linked_open : (w : World) (s : Slip) (h : List Slip) → judge_linked w s h ≡ Shut → ⊥
+linked_open : (w : World) (s : Slip) (h : List Slip) → judge_linked w s h ≡ verdict.Closed → ⊥
 linked_open w s [] e = limit_open w s e
 linked_open w s (t ∷ older) e =
     elim (cases_Bool (leb s.num (root_num w.history))) [
@@ -64,7 +66,7 @@ linked_open w s (t ∷ older) e =
       | inr high ↦ parent_open w s (find_id w.history s.parent_id) (rw high at e)
     ]
 
-held_open : (w : World) (s : Slip) (o : Option Slip) → judge_held w s o ≡ Shut → ⊥
+held_open : (w : World) (s : Slip) (o : Option Slip) → judge_held w s o ≡ verdict.Closed → ⊥
 held_open w s (Some h) e = grind (arith, e)
 held_open w s None e =
     elim (cases_Bool (ltb s.num w.first)) [
@@ -72,32 +74,32 @@ held_open w s None e =
       | inr high ↦ linked_open w s w.history (rw high at e)
     ]
 
-judged_open : (w : World) (s : Slip) → w.closed ≡ false → judge w s ≡ Shut → ⊥
+judged_open : (w : World) (s : Slip) → w.closed ≡ false → judge w s ≡ verdict.Closed → ⊥
 judged_open w s is e = held_open w s (find_id (w.waiting ++ w.history) s.id) (rw is at e)
 
 -- so an answer that refuses nothing is Ok
 ok_by : (w : World) (s : Slip) → w.closed ≡ false → (v : Verdict) → judge w s ≡ v → refusal_of (answer_by w s v) ≡ None → is_ok (answer_by w s v) ≡ true
-ok_by w s is Shut e none = absurd (judged_open w s is e)
-ok_by w s is Repeats e none = refl
-ok_by w s is (Clashes c) e none = absurd (cc)
-ok_by w s is TooEarly e none = refl
-ok_by w s is Late e none = refl
-ok_by w s is NoRoom e none = absurd (cc)
-ok_by w s is Waits e none = refl
-ok_by w s is (Passes need) e none = absurd (cc)
-ok_by w s is Takes e none = refl
+ok_by w s is verdict.Closed e none = absurd (judged_open w s is e)
+ok_by w s is verdict.Duplicate e none = refl
+ok_by w s is (verdict.Conflict c) e none = absurd (cc)
+ok_by w s is verdict.Early e none = refl
+ok_by w s is verdict.Stale e none = refl
+ok_by w s is verdict.WaitFull e none = absurd (cc)
+ok_by w s is verdict.Waiting e none = refl
+ok_by w s is (verdict.HistoryFull need) e none = absurd (cc)
+ok_by w s is verdict.Admitted e none = refl
 
 -- and no offer closes it
 closed_by : (w : World) (s : Slip) (v : Verdict) → (world_by w s v).closed ≡ w.closed
-closed_by w s Shut = refl
-closed_by w s Repeats = refl
-closed_by w s (Clashes c) = refl
-closed_by w s TooEarly = refl
-closed_by w s Late = refl
-closed_by w s NoRoom = refl
-closed_by w s Waits = refl
-closed_by w s (Passes need) = refl
-closed_by w s Takes = refl
+closed_by w s verdict.Closed = refl
+closed_by w s verdict.Duplicate = refl
+closed_by w s (verdict.Conflict c) = refl
+closed_by w s verdict.Early = refl
+closed_by w s verdict.Stale = refl
+closed_by w s verdict.WaitFull = refl
+closed_by w s verdict.Waiting = refl
+closed_by w s (verdict.HistoryFull need) = refl
+closed_by w s verdict.Admitted = refl
 
 taken-append : (w : World) (later earlier : List Slip) → taken w (later ++ earlier) ≡ taken (run w earlier) later ++ taken w earlier
 taken-append w [] earlier = refl

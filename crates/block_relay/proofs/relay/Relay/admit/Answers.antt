@@ -4,7 +4,8 @@ use Rattle.block_record.specs.declared.blocks.Slip.{Slip}
 use Rattle.block_tree.specs.Places.{place_of}
 use Rattle.relay_model.specs.Chronicles.{Opened}
 use Rattle.relay_model.specs.Worlds.{usual_size}
-use Rattle.relay_model.specs.Offers.{Takes, judge, judge_limit}
+use Rattle.relay_model.specs.Offers.{judge, judge_limit}
+use Rattle.relay_model.specs.Verdicts as verdict
 use Rattle.block_relay.specs.declared.marks.Mark.TheVariants as mark
 use Rattle.block_relay.specs.Chronicle.{Told, entries_by, has_kind_mark, kind_mark, limits_told, world_told}
 use Rattle.block_relay.specs.Taking.{intake_from}
@@ -121,4 +122,4 @@ returns c =
     let from : c.len-from.result ≡ length h = c.len-from.ensures.len in
     let clashes = c.admit.ensures.dropped ∙ ap (λ (l : List Slip). (intake_from l t.room.waiting s).dropped) c.make_room.ensures.history in
     let said = said_after w h t.room.waiting s c.len-from.result n c.admit.new.db.history c.finish-dropped.result.items _ k.parts.history k.parts.waiting is from len c.finish-dropped.ensures.told clashes in
-    changed s told _ _ Takes _ c.self.view_is takes said refl entries (conflicts ∙ clashes_same w h t.room.waiting s k.parts.history k.parts.waiting) refl
+    changed s told _ _ verdict.Admitted _ c.self.view_is takes said refl entries (conflicts ∙ clashes_same w h t.room.waiting s k.parts.history k.parts.waiting) refl

@@ -2,7 +2,8 @@ use Rattle.std.proofs.Common.{arith, ◌≡◌, [], ◌∷◌, ◌++◌, reverse
 use Rattle.std.specs.Option.{option_map}
 use Rattle.relay_model.specs.Chronicles.{Opened}
 use Rattle.relay_model.specs.Worlds.{usual_size}
-use Rattle.relay_model.specs.Offers.{Waits, judge}
+use Rattle.relay_model.specs.Offers.{judge}
+use Rattle.relay_model.specs.Verdicts as verdict
 use Rattle.block_relay.specs.declared.marks.Mark.TheVariants as mark
 use Rattle.block_relay.specs.Chronicle.{Told, entries_by, has_kind_mark, limits_told, world_told}
 use Rattle.block_relay.proofs.KeptFacts.{fits_room, lacks_room, marks_push, slips_push, waits}
@@ -11,13 +12,13 @@ use Rattle.block_relay.proofs.relay.Relay.let_wait.Goals as goal
 pub put-requires-clause-fits : goal.put-requires-clause-fits
 put-requires-clause-fits c =
     let s = c.args.slip in
-    let rule = subst (λ (v : Told). judge (world_told v) s ≡ Waits) (sym c.self.view_is) c.requires.waits in
+    let rule = subst (λ (v : Told). judge (world_told v) s ≡ verdict.Waiting) (sym c.self.view_is) c.requires.waits in
     fits_room _ s _ _ c.self.invariant.0.parts rule
 
 pub put-requires-clause-fresh : goal.put-requires-clause-fresh
 put-requires-clause-fresh c =
     let s = c.args.slip in
-    let rule = subst (λ (v : Told). judge (world_told v) s ≡ Waits) (sym c.self.view_is) c.requires.waits in
+    let rule = subst (λ (v : Told). judge (world_told v) s ≡ verdict.Waiting) (sym c.self.view_is) c.requires.waits in
     lacks_room _ s _ _ c.self.invariant.0.parts rule
 
 pub invariant_of-self-2 : goal.invariant_of-self-2
@@ -27,7 +28,7 @@ invariant_of-self-2 c =
     let b = option_map _ c.args.block in
     let opening = Opened t.first t.run (limits_told t.limits) usual_size in
     let es = entries_by opening t.kind (reverse t.marks.items) t.db.history (reverse t.waited.items) in
-    let rule = subst (λ (v : Told). judge (world_told v) s ≡ Waits) (sym c.self.view_is) c.requires.waits in
+    let rule = subst (λ (v : Told). judge (world_told v) s ≡ verdict.Waiting) (sym c.self.view_is) c.requires.waits in
     let ms : reverse c.push_reserved-2.new.self.items ≡ mark.Waited ∷ reverse t.marks.items =
     ap reverse (c.push_reserved-2.ensures.items ∙ ap (λ l. l ++ mark.Waited ∷ []) c.reserve_waiting.ensures.marks) ∙ marks_push t.marks.items mark.Waited in
     let ws : reverse c.push_reserved.new.self.items ≡ s ∷ reverse t.waited.items =
