@@ -1,4 +1,4 @@
--- Small histories, worked out on the definitions alone: a definition that means something else does not check here.
+-- Small histories, worked out on the definitions alone: a definition that means something else on one of them does not check here.
 use Rattle.std.proofs.Common.{arith, ◌≡◌, ℕ, true, false, List, [], ◌∷◌, Some, None, refl, map}
 use Rattle.std.proofs.lemmas.Bool.{both_ways}
 use Rattle.block_record.specs.declared.blocks.Slip.{Slip}
@@ -505,6 +505,40 @@ c3_final = block 3 (99 ∷ 51 ∷ []) 2 (98 ∷ 50 ∷ []) 3
 lib_above : steps_of (c3_final ∷ b2 ∷ a1 ∷ []) (at b2 c3_final) mode.Live None ≡ block_step step.NewFinal c3_final ∷ []
 unfolding same_id
 lib_above = refl
+
+-- a child of c3
+abbrev pub d4 : Slip
+d4 = block 4 (100 ∷ 52 ∷ []) 3 (99 ∷ 51 ∷ []) 2
+
+-- a batch that takes a block back and marks one as final: the undo comes first
+undo_then_final : steps_to (d4 ∷ c3 ∷ b3 ∷ b2 ∷ a1 ∷ []) (at b3 a1) mode.Live None ≡ told step.Undo b3 (at b2 a1) ∷ told step.Final b2 (at b2 b2) ∷ told step.New c3 (at c3 b2) ∷ told step.New d4 (at d4 b2) ∷ []
+unfolding same_id
+undo_then_final = refl
+
+-- the first block after a base is its child
+base_other : fold_steps (record { base = Some (ref_of a1); blocks = []; finals = 0 }) (block_step step.New c3 ∷ []) ≡ None
+unfolding same_id
+base_other = refl
+
+-- by number too
+base_number : fold_steps (record { base = Some (record { num = 7; id = a1.id }); blocks = []; finals = 0 }) (block_step step.New b2 ∷ []) ≡ None
+unfolding same_id
+base_number = refl
+
+-- a block with the id of the last one and another number is not taken back
+undo_number : fold_steps (record { base = None; blocks = record { num = 9; id = b2.id } ∷ []; finals = 0 }) (block_step step.Undo b2 ∷ []) ≡ None
+unfolding same_id
+undo_number = refl
+
+-- the final path is cut too
+final_target_stop : target chain mode.Final (Some 1) ≡ a1 ∷ []
+unfolding same_id
+final_target_stop = refl
+
+-- a parent with another number is none
+parent_number : IsHistory (block 9 (120 ∷ []) 3 (98 ∷ 50 ∷ []) 1 ∷ b2 ∷ a1 ∷ []) → ⊥
+unfolding same_id
+parent_number = λ h. two_or_three 2 refl h.0.parent
 
 -- A later block may have the id that the root names as its parent.
 

@@ -11,8 +11,9 @@ use block_record::{BlockRef, Slip};
 use std::alloc::{AllocError, Global};
 
 /// The steps from the place to the target, in the order in which a client takes them, each with its
-/// block. A block of the place that the history does not have counts as none. It scans the history
-/// again and again.
+/// block. The end of the place is found by its id, and counts as none where the history does not
+/// have it. Its lib is not looked up: what the client has up to that number is not marked again. It
+/// scans the history again and again.
 pub fn plain_steps(
     alloc: Global,
     history: &[Slip],
