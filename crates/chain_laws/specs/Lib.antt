@@ -1,3 +1,4 @@
 pub mod Standing
-pub mod Sessions
+pub mod Oldest
+pub mod Marks
 pub mod Laws

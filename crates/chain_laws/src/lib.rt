@@ -1,5 +1,5 @@
-//! The laws of histories, steps, places and sessions. Each function has no body: its contract is
-//! the law, and its proof shows that the law follows from the definitions of `chain_model`.
+//! The laws of histories, steps and places. Each function has no body: its contract is the law, and
+//! its proof shows that the law follows from the definitions of `chain_model`.
 #![tactic(auto)]
 
 ghost use Rattle.chain_laws.specs.Laws.{
@@ -9,17 +9,10 @@ ghost use Rattle.chain_laws.specs.Laws.{
   ClaimsGoOnToAgree,
   OpeningFits,
   PlacesFit,
-  CursorsFit,
   PlaceReached,
-  DoneStays,
   StepsFold,
   OpeningFolds,
-  FoldKeepsFinals,
   OldestIsFront,
-  BatchesGoOn,
-  BatchesStay,
-  Resumption,
-  ChainGoesOn,
 };
 
 /// The final path only grows: no block on it is ever off it again.
@@ -52,19 +45,9 @@ pub fn places_fit()
     ensures { PlacesFit }
 {}
 
-/// The cursor of each step fits every later history.
-pub fn cursors_fit()
-    ensures { CursorsFit }
-{}
-
 /// The place after all steps is at the end of the target, and no steps lead on from it.
 pub fn place_reached()
     ensures { PlaceReached }
-{}
-
-/// Once the final tip has reached the stop, no further step comes.
-pub fn done_stays()
-    ensures { DoneStays }
 {}
 
 /// The steps lead a client from its place to the target, whatever its base.
@@ -77,32 +60,7 @@ pub fn opening_folds()
     ensures { OpeningFolds }
 {}
 
-/// A fold keeps the blocks that it counts as final, whatever the steps are.
-pub fn fold_keeps_finals()
-    ensures { FoldKeepsFinals }
-{}
-
 /// The oldest blocks are the front of the history.
 pub fn oldest_is_front()
     ensures { OldestIsFront }
-{}
-
-/// A session goes on at the place where it was.
-pub fn batches_go_on()
-    ensures { BatchesGoOn }
-{}
-
-/// The batches of a session do not change when the history grows.
-pub fn batches_stay()
-    ensures { BatchesStay }
-{}
-
-/// What a client makes of a chain of sessions: it loses no step and repeats none.
-pub fn resumption()
-    ensures { Resumption }
-{}
-
-/// What a client makes of a chain of sessions that begins where it stands.
-pub fn chain_goes_on()
-    ensures { ChainGoesOn }
 {}

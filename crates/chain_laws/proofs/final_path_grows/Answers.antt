@@ -1,4 +1,4 @@
-use Rattle.chain_laws.proofs.Growth.{final_path_grows}
+use Rattle.chain_laws.proofs.public.Growth.{final_path_grows}
 use Rattle.chain_laws.proofs.final_path_grows.Goals as goal
 
 pub returns : goal.returns

@@ -1,0 +1,7 @@
+mod CursorFacts
+mod Traces
+mod Chains
+mod Batches
+mod Dones
+mod Counts
+mod SmallSessions
