@@ -4,7 +4,7 @@ use Rattle.std.proofs.lemmas.Option.{same_Some}
 use Rattle.block_record.specs.Ids.{same_id, same_id_refl}
 use Rattle.block_record.specs.declared.blocks.Slip.{Slip}
 use Rattle.chain_model.specs.Ancestry.{find_id, IsHistory}
-use Rattle.chain_laws.proofs.Lines.{IsHistory-rest, some_and, other_id, has_id-find_id, find_id_at}
+use Rattle.chain_laws.proofs.public.Lines.{IsHistory-rest, some_and, other_id, has_id-find_id, find_id_at}
 use Rattle.link_rows.specs.Tree.{IsNext}
 use Rattle.block_tree.specs.Places.{place_of, slip_at, parent_places}
 use Rattle.block_tree.proofs.PlaceFacts.{length_places}

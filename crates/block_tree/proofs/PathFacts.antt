@@ -12,7 +12,7 @@ use Rattle.block_record.specs.Ids.{same_id, same_id_refl, same_id-true}
 use Rattle.block_record.specs.declared.blocks.Slip.{Slip}
 use Rattle.chain_model.specs.Ancestry.{has_id, ancestry, IsHistory}
 use Rattle.chain_model.specs.Finality.{on_path}
-use Rattle.chain_laws.proofs.Lines.{IsHistory-rest, other_id, has_id-find_id}
+use Rattle.chain_laws.proofs.public.Lines.{IsHistory-rest, other_id, has_id-find_id}
 use Rattle.link_rows.specs.Tree.{ancestors, path}
 use Rattle.link_rows.proofs.TreeFacts.{ancestors_within}
 use Rattle.link_rows.proofs.Walks.{length_above}

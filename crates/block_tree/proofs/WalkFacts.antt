@@ -7,7 +7,7 @@ use Rattle.std.specs.Option.{option_map}
 use Rattle.block_record.specs.Ids.{same_id}
 use Rattle.block_record.specs.declared.blocks.Slip.{Slip}
 use Rattle.chain_model.specs.Ancestry.{find_id, ancestry, IsHistory}
-use Rattle.chain_laws.proofs.Lines.{IsHistory-rest, some_and}
+use Rattle.chain_laws.proofs.public.Lines.{IsHistory-rest, some_and}
 use Rattle.std.proofs.lemmas.List.{length-reverse, length-map}
 use Rattle.link_rows.specs.Tree.{ancestors, path}
 use Rattle.link_rows.proofs.TreeFacts.{ancestors_within, ancestors_first, ancestors_length}

@@ -15,8 +15,8 @@ use Rattle.chain_model.specs.Ancestry.{IsHistory}
 use Rattle.chain_model.specs.Finality.{ClaimsAgree}
 use Rattle.chain_model.specs.Places.{PlaceFits, place_to, place_along}
 use Rattle.chain_model.specs.Steps.{BlockStep, block_step, plain_of, steps_of}
-use Rattle.chain_laws.proofs.Ends.{place_reached}
-use Rattle.chain_laws.proofs.Later.{fits_later}
+use Rattle.chain_laws.proofs.public.Ends.{place_reached}
+use Rattle.chain_laws.proofs.public.Later.{fits_later}
 use Rattle.block_tree.specs.Places.{slip_at}
 use Rattle.fork_db.specs.declared.batches.Batch.{Batch}
 use Rattle.fork_db.specs.declared.chunks.StepAt.{StepAt}

@@ -10,9 +10,9 @@ use Rattle.block_record.specs.declared.blocks.Slip.{Slip}
 use Rattle.chain_model.specs.Ancestry.{IsHistory}
 use Rattle.chain_model.specs.Finality.{on_path, final_tip, ClaimsAgree}
 use Rattle.chain_model.specs.Steps.{head, holds_tip}
-use Rattle.chain_laws.proofs.Lines.{some_and}
-use Rattle.chain_laws.proofs.Roots.{has_tip}
-use Rattle.chain_laws.proofs.Meeting.{itself_on_path}
+use Rattle.chain_laws.proofs.public.Lines.{some_and}
+use Rattle.chain_laws.proofs.public.Roots.{has_tip}
+use Rattle.chain_laws.proofs.public.Meeting.{itself_on_path}
 use Rattle.block_tree.specs.Places.{slip_at}
 use Rattle.block_tree.proofs.PlaceFacts.{slip_at_within, slip_at_top}
 use Rattle.block_tree.proofs.ParentFacts.{found_at}

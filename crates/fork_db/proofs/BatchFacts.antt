@@ -15,12 +15,12 @@ use Rattle.chain_model.specs.Finality.{ancestry_of, final_tip, final_ancestry}
 use Rattle.chain_model.specs.Places.{IsAhead, PlaceFits}
 use Rattle.chain_model.specs.Steps.{added, ancestry_at, cut, drop_while, head, is_after, keep_while, kept, target, undone, whole_target}
 use Rattle.chain_laws.specs.Standing.{first_of}
-use Rattle.chain_laws.proofs.ClosedLists.{Passes, Closed, Closed-passes, Passes-append, keep-append-drop, filter-closed, filter-passes, closed_parts, closed_first}
-use Rattle.chain_laws.proofs.Growth.{claim_found, tip_claimed}
-use Rattle.chain_laws.proofs.LineFacts.{line_is}
-use Rattle.chain_laws.proofs.Meeting.{LibFits, meet, lib_split, lib_passes, finals_closed, finals_line, target_line, target_has, whole_line, whole_has, suffix_passes, drop_suffix, has_first}
-use Rattle.chain_laws.proofs.Reach.{IsLine, Nothing, drop_line, ancestry_line, head_is_found, line_under}
-use Rattle.chain_laws.proofs.Walks.{is_final}
+use Rattle.chain_laws.proofs.public.ClosedLists.{Passes, Closed, Closed-passes, Passes-append, keep-append-drop, filter-closed, filter-passes, closed_parts, closed_first}
+use Rattle.chain_laws.proofs.public.Growth.{claim_found, tip_claimed}
+use Rattle.chain_laws.proofs.public.LineFacts.{line_is}
+use Rattle.chain_laws.proofs.public.Meeting.{LibFits, meet, lib_split, lib_passes, finals_closed, finals_line, target_line, target_has, whole_line, whole_has, suffix_passes, drop_suffix, has_first}
+use Rattle.chain_laws.proofs.public.Reach.{IsLine, Nothing, drop_line, ancestry_line, head_is_found, line_under}
+use Rattle.chain_laws.proofs.public.Walks.{is_final}
 use Rattle.block_tree.proofs.ParentFacts.{found_at}
 use Rattle.block_tree.proofs.PlaceFacts.{slip_at-reverse, place_slip}
 use Rattle.block_tree.proofs.WalkFacts.{slip_there}

@@ -8,9 +8,9 @@ use Rattle.block_record.specs.declared.blocks.Slip.{Slip}
 use Rattle.chain_model.specs.Ancestry.{find_id, has_id, ancestry, IsHistory}
 use Rattle.chain_model.specs.Finality.{claim, claims, final_tip, greater, greatest, root_num, on_path, ClaimsAgree}
 use Rattle.chain_model.proofs.ScanFacts.{ancestry_past}
-use Rattle.chain_laws.proofs.Lines.{IsHistory-rest, some_and, other_id, is_fresh, has_id-find_id, has_id-ancestry}
-use Rattle.chain_laws.proofs.Growth.{claims_kept, claim_kept}
-use Rattle.chain_laws.proofs.Tips.{claims_go_on_to_agree}
+use Rattle.chain_laws.proofs.public.Lines.{IsHistory-rest, some_and, other_id, is_fresh, has_id-find_id, has_id-ancestry}
+use Rattle.chain_laws.proofs.public.Growth.{claims_kept, claim_kept}
+use Rattle.chain_laws.proofs.public.Tips.{claims_go_on_to_agree}
 use Rattle.block_tree.specs.Places.{slip_at, slip_of, place_of}
 use Rattle.block_tree.proofs.PlaceFacts.{slip_at_within, slip_at_past, slip_at_top, find_none}
 use Rattle.block_tree.proofs.ParentFacts.{found_at}

@@ -9,12 +9,12 @@ use Rattle.chain_model.specs.Ancestry.{find_id, has_id, ancestry, IsHistory}
 use Rattle.chain_model.specs.Finality.{claim, claims, greater, greatest, on_path, final_tip, ancestry_of, ClaimsAgree}
 use Rattle.chain_model.specs.Steps.{holds_tip}
 use Rattle.chain_model.proofs.ScanFacts.{ancestry_past}
-use Rattle.chain_laws.proofs.Lines.{IsHistory-rest, has_id-find_id, other_id, is_above}
-use Rattle.chain_laws.proofs.Growth.{IsFound, find_passes, claim_found, claims_kept, tip_claimed, greater_cases, grows_by_one}
-use Rattle.chain_laws.proofs.Reach.{has_id-suffix}
-use Rattle.chain_laws.proofs.LineFacts.{same_number}
-use Rattle.chain_laws.proofs.Meeting.{itself_on_path, all_in}
-use Rattle.chain_laws.proofs.Roots.{has_tip}
+use Rattle.chain_laws.proofs.public.Lines.{IsHistory-rest, has_id-find_id, other_id, is_above}
+use Rattle.chain_laws.proofs.public.Growth.{IsFound, find_passes, claim_found, claims_kept, tip_claimed, greater_cases, grows_by_one}
+use Rattle.chain_laws.proofs.public.Reach.{has_id-suffix}
+use Rattle.chain_laws.proofs.public.LineFacts.{same_number}
+use Rattle.chain_laws.proofs.public.Meeting.{itself_on_path, all_in}
+use Rattle.chain_laws.proofs.public.Roots.{has_tip}
 use Rattle.block_tree.specs.Places.{slip_at, place_of}
 use Rattle.block_tree.proofs.PlaceFacts.{slip_at_within, slip_at_past, slip_at_top}
 use Rattle.block_tree.proofs.ParentFacts.{found_at}

@@ -13,13 +13,13 @@ use Rattle.chain_model.specs.Ancestry.{ancestry, IsHistory}
 use Rattle.chain_model.specs.Finality.{ancestry_of}
 use Rattle.chain_model.specs.Steps.{BlockStep, block_step, added, ancestry_at, drop_while, is_after, keep_while, kept, steps_of, target, undone}
 use Rattle.chain_laws.specs.Standing.{first_of}
-use Rattle.chain_laws.proofs.ClosedLists.{Closed, keep-append-drop, filter-closed, filter-not-closed}
-use Rattle.chain_laws.proofs.Later.{ancestry_later, history_older, lines_later}
-use Rattle.chain_laws.proofs.Lines.{has_id-find_id}
-use Rattle.chain_laws.proofs.Meeting.{target_line}
-use Rattle.chain_laws.proofs.Reach.{IsLine, Nothing, From}
-use Rattle.chain_laws.proofs.LineFacts.{line_is}
-use Rattle.chain_laws.proofs.Walks.{is_final}
+use Rattle.chain_laws.proofs.public.ClosedLists.{Closed, keep-append-drop, filter-closed, filter-not-closed}
+use Rattle.chain_laws.proofs.public.Later.{ancestry_later, history_older, lines_later}
+use Rattle.chain_laws.proofs.public.Lines.{has_id-find_id}
+use Rattle.chain_laws.proofs.public.Meeting.{target_line}
+use Rattle.chain_laws.proofs.public.Reach.{IsLine, Nothing, From}
+use Rattle.chain_laws.proofs.public.LineFacts.{line_is}
+use Rattle.chain_laws.proofs.public.Walks.{is_final}
 use Rattle.block_tree.proofs.ParentFacts.{found_at}
 use Rattle.block_tree.proofs.PlaceFacts.{slip_at_past, slip_at_within}
 use Rattle.block_tree.specs.Places.{slip_at, slip_of}

@@ -6,8 +6,8 @@ use Rattle.std.proofs.lemmas.Option.{same_Some}
 use Rattle.block_record.specs.declared.blocks.Slip.{Slip}
 use Rattle.block_record.specs.Ids.{same_id, same_id_refl}
 use Rattle.chain_model.specs.Ancestry.{has_id}
-use Rattle.chain_laws.proofs.Lines.{find_id_at}
-use Rattle.chain_laws.proofs.Growth.{IsFound, all_weaker}
+use Rattle.chain_laws.proofs.public.Lines.{find_id_at}
+use Rattle.chain_laws.proofs.public.Growth.{IsFound, all_weaker}
 use Rattle.relay_model.specs.declared.answers.Conflict.{Conflict as Clash}
 use Rattle.relay_model.specs.Worlds.{lesser, least, next_waiting, without}
 use Rattle.relay_model.specs.Offers.{Intake, clash, take_judged, take_one, take_in}

@@ -6,8 +6,8 @@ use Rattle.block_record.specs.declared.blocks.Slip.{Slip}
 use Rattle.chain_model.specs.Ancestry.{has_id, IsHistory}
 use Rattle.chain_model.specs.Finality.{greatest, final_tip}
 use Rattle.chain_model.specs.Steps.{holds_tip}
-use Rattle.chain_laws.proofs.Lines.{IsHistory-rest, is_fresh}
-use Rattle.chain_laws.proofs.Growth.{IsFound, all_weaker, all_found}
+use Rattle.chain_laws.proofs.public.Lines.{IsHistory-rest, is_fresh}
+use Rattle.chain_laws.proofs.public.Growth.{IsFound, all_weaker, all_found}
 use Rattle.relay_model.specs.Worlds.{World}
 use Rattle.relay_model.specs.Orders.{Linked, position, link_time, linkable, order_from, root_of, comes_after}
 use Rattle.relay_model.specs.Runs.{empty_world, run, taken, received}

@@ -6,7 +6,7 @@ use Rattle.std.proofs.lemmas.Bool.{and_parts, cases_Bool, or_cases, or_parts, bo
 use Rattle.block_record.specs.declared.blocks.Slip.{Slip}
 use Rattle.block_record.specs.Ids.{same_id, same_id-true}
 use Rattle.chain_model.specs.Ancestry.{find_id, has_id}
-use Rattle.chain_laws.proofs.Lines.{find_id_at, find_id_past}
+use Rattle.chain_laws.proofs.public.Lines.{find_id_at, find_id_past}
 use Rattle.relay_laws.proofs.EitherTest.{or_left, or_right}
 use Rattle.relay_model.specs.Orders.{Linked, comes_after, put, sorted}
 use Rattle.relay_model.specs.Soundness.{IsDistinct}

@@ -6,8 +6,8 @@ use Rattle.std.proofs.lemmas.Option.{same_Some}
 use Rattle.block_record.specs.declared.blocks.Slip.{Slip}
 use Rattle.block_record.specs.Ids.{same_id, same_id_refl, same_id-true}
 use Rattle.chain_model.specs.Ancestry.{find_id, has_id}
-use Rattle.chain_laws.proofs.Lines.{has_id-find_id, find_id_at, find_id_past}
-use Rattle.chain_laws.proofs.Growth.{IsFound, found_past}
+use Rattle.chain_laws.proofs.public.Lines.{has_id-find_id, find_id_at, find_id_past}
+use Rattle.chain_laws.proofs.public.Growth.{IsFound, found_past}
 use Rattle.relay_model.specs.declared.answers.Conflict.{Conflict as Clash}
 use Rattle.relay_model.specs.Worlds.{next_waiting}
 use Rattle.relay_model.specs.Offers.{Intake, take_one, take_judged, take_in, clash}

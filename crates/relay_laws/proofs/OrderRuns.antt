@@ -4,9 +4,9 @@ use Rattle.std.proofs.lemmas.Option.{same_Some}
 use Rattle.block_record.specs.declared.blocks.Slip.{Slip}
 use Rattle.block_record.specs.Ids.{same_id, same_id_refl}
 use Rattle.chain_model.specs.Ancestry.{find_id, has_id, ancestry, IsHistory}
-use Rattle.chain_laws.proofs.Growth.{IsFound}
-use Rattle.chain_laws.proofs.Reach.{head_is_found}
-use Rattle.chain_laws.proofs.LineFacts.{parent_at}
+use Rattle.chain_laws.proofs.public.Growth.{IsFound}
+use Rattle.chain_laws.proofs.public.Reach.{head_is_found}
+use Rattle.chain_laws.proofs.public.LineFacts.{parent_at}
 use Rattle.relay_model.specs.Orders.{position, link_time}
 use Rattle.relay_model.specs.Soundness.{IsDistinct}
 use Rattle.relay_laws.proofs.RunFacts.{last_of}

@@ -8,11 +8,11 @@ use Rattle.block_record.specs.declared.blocks.Slip.{Slip}
 use Rattle.block_record.specs.Ids.{same_id, same_id_refl, same_id-true}
 use Rattle.chain_model.specs.Ancestry.{find_id, has_id, IsHistory}
 use Rattle.chain_model.specs.Finality.{root_num, final_tip}
-use Rattle.chain_laws.proofs.Lines.{has_id-find_id, find_id_at, find_id_past}
-use Rattle.chain_laws.proofs.Growth.{IsFound, claim_found, tip_claimed, found_past}
-use Rattle.chain_laws.proofs.Orders.{root_least}
-use Rattle.chain_laws.proofs.Roots.{has_tip}
-use Rattle.chain_laws.proofs.Later.{find_later}
+use Rattle.chain_laws.proofs.public.Lines.{has_id-find_id, find_id_at, find_id_past}
+use Rattle.chain_laws.proofs.public.Growth.{IsFound, claim_found, tip_claimed, found_past}
+use Rattle.chain_laws.proofs.public.Orders.{root_least}
+use Rattle.chain_laws.proofs.public.Roots.{has_tip}
+use Rattle.chain_laws.proofs.public.Later.{find_later}
 use Rattle.relay_model.specs.declared.answers.Conflict.{Conflict as Clash}
 use Rattle.std.specs.Str.{bytes_eq}
 use Rattle.std.proofs.lemmas.Slice.Eq.{bytes_eq-Decides}

@@ -5,8 +5,8 @@ use Rattle.std.proofs.lemmas.Bool.{cases_Bool, both_ways, false_from_ne_true, or
 use Rattle.block_record.specs.declared.blocks.Slip.{Slip}
 use Rattle.block_record.specs.Ids.{same_id, same_id_refl, same_id-true}
 use Rattle.chain_model.specs.Ancestry.{find_id, has_id}
-use Rattle.chain_laws.proofs.Lines.{find_id_at, find_id_past, has_id-find_id, id-find_id}
-use Rattle.chain_laws.proofs.Growth.{IsFound, find_passes}
+use Rattle.chain_laws.proofs.public.Lines.{find_id_at, find_id_past, has_id-find_id, id-find_id}
+use Rattle.chain_laws.proofs.public.Growth.{IsFound, find_passes}
 use Rattle.relay_laws.proofs.EitherTest.{or_right}
 use Rattle.relay_model.specs.declared.answers.Conflict.{Conflict as Clash}
 use Rattle.block_record.specs.Slips.{same_slip}

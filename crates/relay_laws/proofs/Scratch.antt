@@ -8,12 +8,12 @@ use Rattle.block_record.specs.declared.blocks.Slip.{Slip}
 use Rattle.block_record.specs.Ids.{same_id, same_id_refl, same_id-true}
 use Rattle.chain_model.specs.Ancestry.{find_id, has_id, ancestry, IsHistory}
 use Rattle.chain_model.specs.Finality.{root_num, ClaimsAgree, on_path, final_tip}
-use Rattle.chain_laws.proofs.Lines.{IsHistory-rest, find_id_at, has_id-find_id, id-find_id, IsAbove, is_above}
-use Rattle.chain_laws.proofs.Growth.{IsFound, find_passes, found_past, claim_found, tip_claimed}
-use Rattle.chain_laws.proofs.LinkedLists.{Linked}
-use Rattle.chain_laws.proofs.Reach.{head_is_found, ancestry_linked}
-use Rattle.chain_laws.proofs.LineFacts.{parent_at}
-use Rattle.chain_laws.proofs.Roots.{root_line, root_last, root_there, has_tip}
+use Rattle.chain_laws.proofs.public.Lines.{IsHistory-rest, find_id_at, has_id-find_id, id-find_id, IsAbove, is_above}
+use Rattle.chain_laws.proofs.public.Growth.{IsFound, find_passes, found_past, claim_found, tip_claimed}
+use Rattle.chain_laws.proofs.public.LinkedLists.{Linked}
+use Rattle.chain_laws.proofs.public.Reach.{head_is_found, ancestry_linked}
+use Rattle.chain_laws.proofs.public.LineFacts.{parent_at}
+use Rattle.chain_laws.proofs.public.Roots.{root_line, root_last, root_there, has_tip}
 use Rattle.block_record.specs.Slips.{same_slip}
 use Rattle.relay_model.specs.Worlds.{World}
 use Rattle.relay_model.specs.Offers.{tip_num, num_of}

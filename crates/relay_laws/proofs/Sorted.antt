@@ -10,12 +10,12 @@ use Rattle.block_record.specs.Ids.{same_id_refl}
 use Rattle.chain_model.specs.Ancestry.{has_id, ancestry, IsHistory}
 use Rattle.chain_model.specs.Finality.{final_tip, ancestry_of, ClaimsAgree}
 use Rattle.chain_model.specs.Steps.{holds_tip}
-use Rattle.chain_laws.proofs.Lines.{IsHistory-rest, is_fresh, find_id_at, has_id-find_id, is_above}
-use Rattle.chain_laws.proofs.Growth.{IsFound, all_weaker, all_found, found_past, tip_claimed, claim_found, grows_by_many}
-use Rattle.chain_laws.proofs.Reach.{has_id-suffix}
-use Rattle.chain_laws.proofs.Meeting.{itself_on_path}
-use Rattle.chain_laws.proofs.Later.{ancestry_later, history_older}
-use Rattle.chain_laws.proofs.Roots.{has_tip}
+use Rattle.chain_laws.proofs.public.Lines.{IsHistory-rest, is_fresh, find_id_at, has_id-find_id, is_above}
+use Rattle.chain_laws.proofs.public.Growth.{IsFound, all_weaker, all_found, found_past, tip_claimed, claim_found, grows_by_many}
+use Rattle.chain_laws.proofs.public.Reach.{has_id-suffix}
+use Rattle.chain_laws.proofs.public.Meeting.{itself_on_path}
+use Rattle.chain_laws.proofs.public.Later.{ancestry_later, history_older}
+use Rattle.chain_laws.proofs.public.Roots.{has_tip}
 use Rattle.relay_model.specs.Soundness.{IsDistinct}
 use Rattle.relay_laws.proofs.Times.{link_down}
 use Rattle.relay_model.proofs.Intakes.{all_filter}

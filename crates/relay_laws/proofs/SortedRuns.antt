@@ -9,12 +9,12 @@ use Rattle.block_record.specs.Ids.{same_id, same_id_refl, same_id-true}
 use Rattle.chain_model.specs.Ancestry.{find_id, has_id, ancestry, IsHistory}
 use Rattle.chain_model.specs.Finality.{final_tip, ClaimsAgree}
 use Rattle.chain_model.specs.Steps.{holds_tip}
-use Rattle.chain_laws.proofs.Lines.{find_id_at, has_id-find_id, has_id-ancestry}
-use Rattle.chain_laws.proofs.Growth.{IsFound, all_weaker, all_found, tip_claimed, claim_found}
-use Rattle.chain_laws.proofs.Reach.{head_is_found}
-use Rattle.chain_laws.proofs.LineFacts.{parent_at, same_number}
-use Rattle.chain_laws.proofs.Roots.{has_tip}
-use Rattle.chain_laws.proofs.Later.{ancestry_later, find_later}
+use Rattle.chain_laws.proofs.public.Lines.{find_id_at, has_id-find_id, has_id-ancestry}
+use Rattle.chain_laws.proofs.public.Growth.{IsFound, all_weaker, all_found, tip_claimed, claim_found}
+use Rattle.chain_laws.proofs.public.Reach.{head_is_found}
+use Rattle.chain_laws.proofs.public.LineFacts.{parent_at, same_number}
+use Rattle.chain_laws.proofs.public.Roots.{has_tip}
+use Rattle.chain_laws.proofs.public.Later.{ancestry_later, find_later}
 use Rattle.relay_model.specs.Worlds.{World, Limits}
 use Rattle.relay_model.specs.declared.answers.Conflict.{Conflict as Clash}
 use Rattle.std.proofs.lemmas.List.{reverse-reverse}
@@ -30,7 +30,7 @@ use Rattle.relay_model.proofs.Intakes.{all_filter, taking_grows}
 use Rattle.relay_model.proofs.Judged.{IsWaiting, judged_takes, judged_waits}
 use Rattle.relay_model.proofs.Sound.{first_intake, starts, begins_taking, ends_taking, new_parts}
 use Rattle.relay_model.proofs.Entries.{distinct_found}
-use Rattle.chain_laws.proofs.Tips.{on_one_path}
+use Rattle.chain_laws.proofs.public.Tips.{on_one_path}
 use Rattle.relay_laws.proofs.Moves.{Moves, moves}
 use Rattle.relay_laws.proofs.RunFacts.{last_of, last_append, IsStep, IsRun, Where, run_step}
 use Rattle.relay_laws.proofs.RunSteps.{no_root, run_of, block_step, rest_one, once_distinct, empty_both}

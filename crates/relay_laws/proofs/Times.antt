@@ -6,8 +6,8 @@ use Rattle.std.proofs.lemmas.Bool.{and_parts, cases_Bool, both_ways, false_from_
 use Rattle.std.proofs.lemmas.Option.{same_Some}
 use Rattle.block_record.specs.declared.blocks.Slip.{Slip}
 use Rattle.block_record.specs.Ids.{same_id, same_id_refl, same_id-true}
-use Rattle.chain_laws.proofs.Lines.{find_id_at, find_id_past}
-use Rattle.chain_laws.proofs.Growth.{IsFound, find_passes}
+use Rattle.chain_laws.proofs.public.Lines.{find_id_at, find_id_past}
+use Rattle.chain_laws.proofs.public.Growth.{IsFound, find_passes}
 use Rattle.block_record.specs.Slips.{same_slip}
 use Rattle.relay_model.specs.Orders.{position, is_parent, later, time_by, link_time_in, link_time}
 use Rattle.relay_model.specs.Soundness.{IsDistinct}

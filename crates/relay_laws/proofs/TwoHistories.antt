@@ -5,14 +5,14 @@ use Rattle.std.proofs.lemmas.Option.{same_Some}
 use Rattle.block_record.specs.declared.blocks.Slip.{Slip}
 use Rattle.chain_model.specs.Ancestry.{find_id, has_id, ancestry, IsHistory}
 use Rattle.chain_model.specs.Finality.{root_num, claim, on_path, ClaimsAgree, final_tip}
-use Rattle.chain_laws.proofs.Lines.{id-find_id, is_above}
-use Rattle.chain_laws.proofs.Growth.{IsFound, find_passes, claim_found, tip_claimed}
-use Rattle.chain_laws.proofs.Reach.{head_is_found, has_id-suffix}
-use Rattle.chain_laws.proofs.Meeting.{all_in}
-use Rattle.chain_laws.proofs.Orders.{root_least, alone_is_root}
-use Rattle.chain_laws.proofs.LineFacts.{parent_at}
-use Rattle.chain_laws.proofs.Tips.{tip_most}
-use Rattle.chain_laws.proofs.LineFacts.{same_number}
+use Rattle.chain_laws.proofs.public.Lines.{id-find_id, is_above}
+use Rattle.chain_laws.proofs.public.Growth.{IsFound, find_passes, claim_found, tip_claimed}
+use Rattle.chain_laws.proofs.public.Reach.{head_is_found, has_id-suffix}
+use Rattle.chain_laws.proofs.public.Meeting.{all_in}
+use Rattle.chain_laws.proofs.public.Orders.{root_least, alone_is_root}
+use Rattle.chain_laws.proofs.public.LineFacts.{parent_at}
+use Rattle.chain_laws.proofs.public.Tips.{tip_most}
+use Rattle.chain_laws.proofs.public.LineFacts.{same_number}
 
 -- a history within another, with the same root
 pub record IsWithin (small large : List Slip) : Type 0 where

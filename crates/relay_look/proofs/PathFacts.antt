@@ -4,7 +4,7 @@ use Rattle.std.proofs.lemmas.Bool.{both_ways}
 use Rattle.block_record.specs.declared.blocks.Slip.{Slip}
 use Rattle.chain_model.specs.Ancestry.{ancestry, has_id}
 use Rattle.chain_model.specs.Finality.{ancestry_of, final_tip, on_path}
-use Rattle.chain_laws.proofs.Lines.{has_id-ancestry}
+use Rattle.chain_laws.proofs.public.Lines.{has_id-ancestry}
 use Rattle.block_tree.specs.Places.{place_of, slip_at, slip_of}
 use Rattle.block_tree.proofs.PlaceFacts.{place_none, place_slip}
 use Rattle.block_tree.proofs.WalkFacts.{slip_there}

@@ -6,9 +6,9 @@ use Rattle.block_record.specs.declared.blocks.Slip.{Slip}
 use Rattle.block_record.specs.Ids.{same_id}
 use Rattle.chain_model.specs.Ancestry.{find_id, has_id, IsHistory}
 use Rattle.chain_model.specs.Finality.{claim, agrees, ClaimsAgree, final_tip}
-use Rattle.chain_laws.proofs.Lines.{find_id_past, find_id_at}
-use Rattle.chain_laws.proofs.Growth.{IsFound}
-use Rattle.chain_laws.proofs.Tips.{claims_go_on_to_agree}
+use Rattle.chain_laws.proofs.public.Lines.{find_id_past, find_id_at}
+use Rattle.chain_laws.proofs.public.Growth.{IsFound}
+use Rattle.chain_laws.proofs.public.Tips.{claims_go_on_to_agree}
 use Rattle.relay_model.specs.declared.answers.ConflictKind.TheVariants as kind
 use Rattle.relay_model.specs.Offers.{clash, parent_clash, finality_clash, conflict}
 

@@ -10,9 +10,9 @@ use Rattle.block_record.specs.declared.blocks.Kind.{Kind}
 use Rattle.block_record.specs.Ids.{same_id, same_id_refl, same_id-true}
 use Rattle.chain_model.specs.Ancestry.{find_id, has_id, IsHistory}
 use Rattle.chain_model.specs.Finality.{final_tip}
-use Rattle.chain_laws.proofs.Lines.{IsHistory-rest}
-use Rattle.chain_laws.proofs.Growth.{all_weaker, claim_kept, found_past, tip_claimed}
-use Rattle.chain_laws.proofs.Reach.{has_id-suffix, has_id-append_right}
+use Rattle.chain_laws.proofs.public.Lines.{IsHistory-rest}
+use Rattle.chain_laws.proofs.public.Growth.{all_weaker, claim_kept, found_past, tip_claimed}
+use Rattle.chain_laws.proofs.public.Reach.{has_id-suffix, has_id-append_right}
 use Rattle.relay_model.specs.declared.answers.Conflict.{Conflict as Clash}
 use Rattle.relay_model.specs.Worlds.{World, next_waiting, without}
 use Rattle.relay_model.specs.Offers.{Intake, intake, take_one, take_judged, take_in, clash, purged, tip_num, num_of, judge, world_by, kind_after}
@@ -22,8 +22,8 @@ use Rattle.relay_model.specs.Soundness.{IsBlock}
 use Rattle.relay_model.specs.Chronicles.{Entry, Admitted, first_of, run_of, limits_of, size_of, kind_of, history_of, waited_of, stored_of, closed_of, still_waits, waiting_of, world_of, kind_added, added_by}
 use Rattle.relay_model.specs.Soundness.{IsDistinct, IsSound}
 use Rattle.relay_model.specs.Laws.{OfferAdds}
-use Rattle.chain_laws.proofs.Roots.{has_tip}
-use Rattle.chain_laws.proofs.Tips.{tip_most}
+use Rattle.chain_laws.proofs.public.Roots.{has_tip}
+use Rattle.chain_laws.proofs.public.Tips.{tip_most}
 use Rattle.relay_model.proofs.Intakes.{IsTaken, next_is, IsTaking, keeps_one, grows_one, taking_grows}
 use Rattle.relay_model.proofs.Judged.{judged_waits, judged_takes}
 use Rattle.relay_model.proofs.Sound.{none_found, lacks_each, first_intake, starts, begins_taking, ends_taking, intake_grows}

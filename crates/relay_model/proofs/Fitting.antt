@@ -15,7 +15,7 @@ use Rattle.chain_model.specs.Finality.{final_ancestry}
 use Rattle.chain_model.specs.Steps.{parent_of}
 use Rattle.chain_model.specs.Fold.{same_ref}
 use Rattle.chain_model.specs.Places.{IsHeld, PlaceFits, IsAhead, opening}
-use Rattle.chain_laws.proofs.Ends.{opening_fits}
+use Rattle.chain_laws.proofs.public.Ends.{opening_fits}
 use Rattle.step_cursor.specs.declared.cursor.Cursor.{Cursor}
 use Rattle.step_cursor.specs.declared.cursor.Request.{Request}
 use Rattle.step_cursor.specs.declared.cursor.MisfitField.{MisfitField}

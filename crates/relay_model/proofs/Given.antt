@@ -15,12 +15,12 @@ use Rattle.chain_model.specs.Finality.{ClaimsAgree, final_ancestry}
 use Rattle.chain_model.specs.Steps.{BlockStep, block_step, ref_of, parent_of, ancestry_at, place_after, steps_of, target}
 use Rattle.chain_model.specs.Places.{PlaceFits, BlocksFit, IsHeld}
 use Rattle.chain_model.specs.Places.{PlacedStep, placed}
-use Rattle.chain_laws.proofs.Lines.{some_and, has_id-find_id}
-use Rattle.chain_laws.proofs.Growth.{IsFound}
-use Rattle.chain_laws.proofs.LineFacts.{first_is_found}
-use Rattle.chain_laws.proofs.Walks.{Walks, Walk, next, walk_fits}
-use Rattle.chain_laws.proofs.Starts.{start}
-use Rattle.chain_laws.proofs.Later.{history_older, find_later, held_later, fits_later}
+use Rattle.chain_laws.proofs.public.Lines.{some_and, has_id-find_id}
+use Rattle.chain_laws.proofs.public.Growth.{IsFound}
+use Rattle.chain_laws.proofs.public.LineFacts.{first_is_found}
+use Rattle.chain_laws.proofs.public.Walks.{Walks, Walk, next, walk_fits}
+use Rattle.chain_laws.proofs.public.Starts.{start}
+use Rattle.chain_laws.proofs.public.Later.{history_older, find_later, held_later, fits_later}
 use Rattle.step_cursor.specs.declared.cursor.Cursor.{Cursor}
 use Rattle.step_cursor.specs.declared.cursor.Request.{Request}
 use Rattle.step_cursor.specs.declared.cursor.MisfitField.TheVariants as field

@@ -10,7 +10,7 @@ use Rattle.block_record.specs.declared.blocks.Kind.{Kind}
 use Rattle.block_record.specs.Ids.{same_id, same_id_refl, same_id-true}
 use Rattle.chain_model.specs.Ancestry.{find_id, has_id, IsHistory}
 use Rattle.chain_model.specs.Finality.{root_num}
-use Rattle.chain_laws.proofs.Growth.{IsFound, all_weaker}
+use Rattle.chain_laws.proofs.public.Growth.{IsFound, all_weaker}
 use Rattle.relay_model.specs.Worlds.{World, Limits}
 use Rattle.relay_model.specs.Runs.{empty_world}
 use Rattle.relay_model.specs.Offers.{Intake, intake, admitted, kind_after, purged, tip_num, judge, world_by}

@@ -13,12 +13,12 @@ use Rattle.chain_model.specs.Steps.{BlockStep, steps_of, target, place_after}
 use Rattle.chain_model.specs.Places.{PlaceFits, place_to}
 use Rattle.chain_model.specs.Fold.{FoldState, fold_steps, after_step}
 use Rattle.chain_laws.specs.Standing.{stands, IsUnder}
-use Rattle.chain_laws.proofs.Lines.{some_and, has_id-find_id}
-use Rattle.chain_laws.proofs.Growth.{IsFound, all_weaker}
-use Rattle.chain_laws.proofs.Later.{find_later, held_later, ancestry_later, fits_later, stands_later}
-use Rattle.chain_laws.proofs.Walks.{Walk, next}
-use Rattle.chain_laws.proofs.Starts.{start}
-use Rattle.chain_laws.proofs.Ends.{walk_along, walk_under, fold_along, place_reached}
+use Rattle.chain_laws.proofs.public.Lines.{some_and, has_id-find_id}
+use Rattle.chain_laws.proofs.public.Growth.{IsFound, all_weaker}
+use Rattle.chain_laws.proofs.public.Later.{find_later, held_later, ancestry_later, fits_later, stands_later}
+use Rattle.chain_laws.proofs.public.Walks.{Walk, next}
+use Rattle.chain_laws.proofs.public.Starts.{start}
+use Rattle.chain_laws.proofs.public.Ends.{walk_along, walk_under, fold_along, place_reached}
 use Rattle.relay_model.specs.Worlds.{World}
 use Rattle.relay_model.specs.Soundness.{IsBlock, IsSound}
 use Rattle.relay_model.specs.Offers.{judge, intake, answer_by, world_by, offered}

@@ -3,7 +3,7 @@ use Rattle.std.proofs.Common.{arith, ◌≡◌, ◌≤◌, inl, inr, Bool, true,
 use Rattle.std.specs.List.{AllByRecursion, filter, find}
 use Rattle.std.specs.Option.{option_map}
 use Rattle.std.proofs.lemmas.Bool.{both_ways}
-use Rattle.chain_laws.proofs.Lines.{is_above}
+use Rattle.chain_laws.proofs.public.Lines.{is_above}
 use Rattle.block_record.specs.declared.blocks.Slip.{Slip}
 use Rattle.block_record.specs.declared.blocks.BlockRef.{BlockRef}
 use Rattle.chain_model.specs.declared.places.Mode.TheVariants as mode
@@ -11,11 +11,11 @@ use Rattle.chain_model.specs.Ancestry.{has_id, ancestry, IsHistory}
 use Rattle.chain_model.specs.Finality.{ancestry_of, greatest, final_tip, final_ancestry}
 use Rattle.chain_model.specs.Steps.{ref_of, drop_while, ancestry_at, holds_tip, head, target}
 use Rattle.chain_laws.specs.Standing.{first_of, place_at_end, stands, after_base}
-use Rattle.chain_laws.proofs.Growth.{IsFound, all_found, greater_cases, tip_claimed, claim_found}
-use Rattle.chain_laws.proofs.Reach.{IsLine, drop_line, head_is_found, has_id-drop_by_id, first_fails}
-use Rattle.chain_laws.proofs.Meeting.{whole_line, whole_has, itself_on_path}
-use Rattle.chain_laws.proofs.LineFacts.{line_is, first_is_found, same_number}
-use Rattle.chain_laws.proofs.Ends.{place_same}
+use Rattle.chain_laws.proofs.public.Growth.{IsFound, all_found, greater_cases, tip_claimed, claim_found}
+use Rattle.chain_laws.proofs.public.Reach.{IsLine, drop_line, head_is_found, has_id-drop_by_id, first_fails}
+use Rattle.chain_laws.proofs.public.Meeting.{whole_line, whole_has, itself_on_path}
+use Rattle.chain_laws.proofs.public.LineFacts.{line_is, first_is_found, same_number}
+use Rattle.chain_laws.proofs.public.Ends.{place_same}
 use Rattle.relay_model.proofs.Intakes.{all_filter}
 use Rattle.step_laws.specs.Telling.{head_place, at_head, has_head}
 

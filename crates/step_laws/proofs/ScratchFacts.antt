@@ -7,7 +7,7 @@ use Rattle.chain_model.specs.Ancestry.{IsHistory}
 use Rattle.chain_model.specs.Finality.{ancestry_of, final_tip}
 use Rattle.chain_model.specs.Steps.{head}
 use Rattle.chain_model.specs.Places.{no_place}
-use Rattle.chain_laws.proofs.Growth.{IsFound, all_weaker}
+use Rattle.chain_laws.proofs.public.Growth.{IsFound, all_weaker}
 use Rattle.fire_lines.specs.declared.faults.LineFault.{LineFault}
 use Rattle.fire_lines.specs.Text.{received}
 use Rattle.relay_model.specs.Worlds.{World}

@@ -1,6 +1,6 @@
 use Rattle.std.proofs.Common.{ap, sym, ◌∙◌, subst, true}
 use Rattle.chain_model.specs.Places.{PlaceFits}
-use Rattle.chain_laws.proofs.Ends.{opening_fits}
+use Rattle.chain_laws.proofs.public.Ends.{opening_fits}
 use Rattle.relay_model.specs.Looks.{look_from}
 use Rattle.relay_look.specs.Answers.{IsLook}
 use Rattle.relay_look.proofs.LookFacts.{open_on}
