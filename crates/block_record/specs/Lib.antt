@@ -1,8 +1,10 @@
+pub mod Words
 pub mod Texts
 pub mod Ids
 pub mod Number
 pub mod Parents
 pub mod Slips
+pub mod SlipRefs
 pub mod Kinds
 pub mod Records
 pub mod Reading

@@ -10,6 +10,7 @@ mod ids;
 mod numbers;
 mod readers;
 mod records;
+mod slip_refs;
 mod types;
 
 pub use blocks::{Block, BlockRef, Kind, PAYLOAD_BYTES_MAX, Slip, Version};
@@ -20,7 +21,8 @@ pub use faults::RecordFault;
 pub use ids::{Id, is_id};
 pub use numbers::read_number;
 pub use readers::ReaderName;
-pub use records::{decode, encode};
+pub use records::{decode, encode, encode_old};
+pub use slip_refs::SlipRef;
 pub use types::{TypeName, is_type_name};
 
 #[cfg(test)]

@@ -2,12 +2,14 @@
 
 ghost use Rattle.std.specs.Prelude.{◌≡◌, ◌≤◌, ◌<◌, ◌^◌, ◌++◌, IfOk, OnOk, Ok, length, IsTrue};
 ghost use Rattle.std.specs.Int.{w64};
+ghost use Rattle.sha2.specs.Sha256.{sha256};
 ghost use Rattle.block_record.specs.declared.blocks.Block.{Block};
 ghost use Rattle.block_record.specs.declared.faults.RecordFault;
 ghost use Rattle.block_record.specs.Parents.{is_parent_num};
 ghost use Rattle.block_record.specs.Texts.{IsId};
-ghost use Rattle.block_record.specs.Records.{place, number_text, record_text, id_text, payload_text, record_fault, fields_of, IsRecordable, version_at as version_of, number_at as number_of, parent_num_at as parent_num_of, id_at as id_of, payload_at as payload_of};
-ghost use Rattle.block_record.specs.Reading.{Gives, UnlessMem, bad_place, read, numbers_of, read_numbers, read_fields};
+ghost use Rattle.block_record.specs.Words.{Unless};
+ghost use Rattle.block_record.specs.Records.{place, number_text, text_from, record_text, old_record_text, id_text, payload_text, record_fault, fields_of, IsRecordable, IsRecordText, version_at as version_of, number_at as number_of, parent_num_at as parent_num_of, id_at as id_of, payload_at as payload_of, digest_at as digest_of};
+ghost use Rattle.block_record.specs.Reading.{Gives, bad_place, read, version_number, numbers_of, read_numbers, read_fields};
 
 use crate::blocks::{Block, PAYLOAD_BYTES_MAX};
 use crate::bytes::Bytes;
@@ -16,8 +18,14 @@ use crate::ids::Id;
 use sha2::{Digest, Sha256};
 use std::alloc::{AllocError, Global};
 
-/// The first byte of each record.
-const RECORD_VERSION: u8 = 1;
+/// The two forms of record.
+#[derive(Clone, Copy)]
+enum Form {
+    /// Record 1, without the digest of the payload.
+    Old,
+    /// Record 2, which ends with it.
+    Digested,
+}
 
 /// The numbers of a record.
 #[derive(Clone, Copy)]
@@ -28,15 +36,35 @@ struct Numbers {
     time: u64,
 }
 
-/// The record of a block: the version 1; number, parent's number, lib number and time; the id and
-/// the parent's id, each after a byte for its length; and the payload after four bytes for its
-/// length. All numbers have their greatest byte first.
+/// Record 2 of a block: the version 2; number, parent's number, lib number and time; the id and the
+/// parent's id, each after a byte for its length; the payload after four bytes for its length; and
+/// the payload's SHA-256. All numbers have their greatest byte first.
 pub fn encode(alloc: Global, block: &Block) -> Result<Vec<u8>, AllocError>
     ensures text { IfOk result (λ bytes. bytes.items ≡ record_text block.now) }
     ensures recordable { OnOk result (IsRecordable block.now) }
 {
+    let mut bytes = encode_fields(alloc, Form::Digested, block)?;
+    bytes.extend_from_slice(&block.digest)?;
+    Ok(bytes)
+}
+
+/// Record 1 of a block: the version 1, and what record 2 has between its version and its digest.
+pub fn encode_old(alloc: Global, block: &Block) -> Result<Vec<u8>, AllocError>
+    ensures text { IfOk result (λ bytes. bytes.items ≡ old_record_text block.now) }
+    ensures recordable { OnOk result (IsRecordable block.now) }
+{
+    let bytes = encode_fields(alloc, Form::Old, block)?;
+    Ok(bytes)
+}
+
+/// The version of a form, and the fields of a block.
+fn encode_fields(alloc: Global, form: Form, block: &Block) -> Result<Vec<u8>, AllocError>
+    ensures text { IfOk result
+        (λ bytes. bytes.items ≡ text_from (version_number form) (fields_of block.now)) }
+    ensures recordable { OnOk result (IsRecordable block.now) }
+{
     let mut bytes = Vec::new(alloc);
-    bytes.push(RECORD_VERSION)?;
+    bytes.push(version_byte(form))?;
     push_numbers(block, &mut bytes)?;
     push_id(&block.id, &mut bytes)?;
     push_id(&block.parent_id, &mut bytes)?;
@@ -44,15 +72,25 @@ pub fn encode(alloc: Global, block: &Block) -> Result<Vec<u8>, AllocError>
     Ok(bytes)
 }
 
-/// The block of a record, with its payload's digest.
+/// The first byte of a record of this form.
+fn version_byte(form: Form) -> u8
+    ensures { result ≡ version_number form }
+{
+    match form {
+        Form::Old => 1,
+        Form::Digested => 2,
+    }
+}
+
+/// The block of a record of either form, with its payload's digest.
 pub fn decode(alloc: Global, bytes: &[u8]) -> Result<Block, RecordFault>
-    // What is decoded is the record of the block, and each block's record is decoded as that block.
-    ensures text { IfOk result (λ block. bytes.now ≡ record_text block) }
-    ensures back { (block : Block) → IsRecordable block → bytes.now ≡ record_text block
-        → UnlessMem result (result ≡ Ok block) }
+    // What is decoded is a record of the block, and each block's records are decoded as that block.
+    ensures text { IfOk result (λ block. IsRecordText bytes.now block) }
+    ensures back { (block : Block) → IsRecordable block → IsRecordText bytes.now block
+        → Unless RecordFault.Mem result (result ≡ Ok block) }
 
     // Other bytes are refused at the first field that is cut or bad, or at what follows the last.
-    ensures fault { UnlessMem result (bad_place result ≡ record_fault bytes.now) }
+    ensures fault { Unless RecordFault.Mem result (bad_place result ≡ record_fault bytes.now) }
 {
     read_block(alloc, bytes)
 }
@@ -63,10 +101,13 @@ fn read_block(alloc: Global, bytes: &[u8]) -> Result<Block, RecordFault>
     ensures { Gives fields_of result (read_fields bytes.now) }
 {
     let total = bytes.len();
-    let (numbers, rest) = numbers_at(total, bytes)?;
+    let (form, rest) = form_at(total, bytes)?;
+    let (numbers, rest) = numbers_at(total, rest)?;
     let (id, rest) = id_at(alloc, total, rest)?;
     let (parent_id, rest) = id_at(alloc, total, rest)?;
     let (payload, rest) = payload_at(total, rest)?;
+    let digest = Sha256::digest(payload);
+    let rest = after_digest(total, form, &digest, rest)?;
     if !rest.is_empty() {
         return Err(bad(total, rest));
     }
@@ -77,19 +118,29 @@ fn read_block(alloc: Global, bytes: &[u8]) -> Result<Block, RecordFault>
         parent_id,
         lib_num: numbers.lib_num,
         time: numbers.time,
-        digest: Sha256::digest(payload),
+        digest,
         payload: Bytes::new(alloc, payload)?,
     })
 }
 
-/// The version and the numbers at the front of a record of so many bytes, and what follows them.
+/// The form of a record by its version, and what follows the version.
+fn form_at(total: usize, bytes: &[u8]) -> Result<(Form, &[u8]), RecordFault>
+    ensures { Gives (λ x. (version_number x.0, x.1.now)) result (read total version_of bytes.now) }
+{
+    match bytes {
+        [1, rest @ ..] => Ok((Form::Old, rest)),
+        [2, rest @ ..] => Ok((Form::Digested, rest)),
+        _ => Err(bad(total, bytes)),
+    }
+}
+
+/// The numbers at the front of the last bytes of so many, and what follows them.
 #[tactic(auto, unfolding(crate::specs::Reading::read_numbers))]
 fn numbers_at(total: usize, bytes: &[u8]) -> Result<(Numbers, &[u8]), RecordFault>
     ensures value { Gives (λ x. (numbers_of x.0, x.1.now)) result (read_numbers total bytes.now) }
     ensures first { IfOk result (λ x. IsTrue (is_parent_num x.0.parent_num x.0.num)) }
 {
-    let rest = after_version(total, bytes)?;
-    let (num, rest) = number_at(total, rest)?;
+    let (num, rest) = number_at(total, bytes)?;
     let (parent_num, rest) = parent_num_at(total, num, rest)?;
     let (lib_num, rest) = number_at(total, rest)?;
     let (time, rest) = number_at(total, rest)?;
@@ -100,16 +151,6 @@ fn numbers_at(total: usize, bytes: &[u8]) -> Result<(Numbers, &[u8]), RecordFaul
         time,
     };
     Ok((numbers, rest))
-}
-
-/// What follows the version.
-fn after_version(total: usize, bytes: &[u8]) -> Result<&[u8], RecordFault>
-    ensures { Gives (λ rest. (1, rest.now)) result (read total version_of bytes.now) }
-{
-    match bytes {
-        [RECORD_VERSION, rest @ ..] => Ok(rest),
-        _ => Err(bad(total, bytes)),
-    }
 }
 
 /// The number at the front of the last bytes of so many, and what follows it.
@@ -171,6 +212,29 @@ fn payload_at(total: usize, bytes: &[u8]) -> Result<(&[u8], &[u8]), RecordFault>
         return Err(bad(total, bytes));
     }
     Ok(rest.split_at(length))
+}
+
+/// What follows the digest of a record, which is this one: record 1 has none.
+fn after_digest<'a>(
+    total: usize,
+    form: Form,
+    digest: &[u8; 32],
+    bytes: &'a [u8],
+) -> Result<&'a [u8], RecordFault>
+    ensures { Gives (λ rest. (digest.now, rest.now)) result
+        (read total (digest_of (version_number form) digest.now) bytes.now) }
+{
+    if let Form::Old = form {
+        return Ok(bytes);
+    }
+    if bytes.len() < 32 {
+        return Err(bad(total, bytes));
+    }
+    let (front, rest) = bytes.split_at(32);
+    if front != digest.as_slice() {
+        return Err(bad(total, bytes));
+    }
+    Ok(rest)
 }
 
 /// The fault of the field that these last bytes of so many begin with.

@@ -1,8 +1,9 @@
 use crate::{
-    Block, Bytes, Id, Kind, ReaderName, RecordFault, TypeName, Version, decode, encode, is_id,
-    read_number, slip_of,
+    Block, Bytes, Id, Kind, ReaderName, RecordFault, SlipRef, TypeName, Version, decode, encode,
+    encode_old, is_id, read_number, slip_of,
 };
 use sha2::{Digest, Sha256};
+use std::alloc::Global;
 use std::test::Fail;
 
 const NUMBERS: [(&[u8], Option<u64>); 12] = [
@@ -108,6 +109,9 @@ fn a_slip_shows_its_block(rt: HostRuntime) -> Result<(), Fail> {
     assert!(rt; slip.id == block.id && slip.parent_id == block.parent_id);
     assert!(rt; slip.length == 1 && slip.digest == DIGEST);
     assert!(rt; slip.clone()? == slip);
+    let seen = SlipRef::of_block(&block);
+    assert!(rt; seen.is_same(&slip) && seen.to_slip()? == slip);
+    assert!(rt; SlipRef::of_slip(&slip).is_same(&slip));
     assert!(rt; Bytes::from_vec(block.payload.into_vec()).as_bytes() == [1].as_slice());
     Ok(())
 }
@@ -127,53 +131,72 @@ fn kinds_differ_by_version_and_type(rt: HostRuntime) -> Result<(), Fail> {
     Ok(())
 }
 
-// The record of the block 1/a1 with the parent 0/a0, lib number 0, time 0 and the payload 01.
-const RECORD: [u8; 44] = [
+// Record 1 of the block 1/a1 with the parent 0/a0, lib number 0, time 0 and the payload 01.
+const OLD_RECORD: [u8; 44] = [
     1, 0, 0, 0, 0, 0, 0, 0, 1, 0, 0, 0, 0, 0, 0, 0, 0, 0, 0, 0, 0, 0, 0, 0, 0, 0, 0, 0, 0, 0, 0, 0,
     0, 2, b'a', b'1', 2, b'a', b'0', 0, 0, 0, 1, 1,
 ];
 
-// A byte at a place of the record, and where the record is then refused.
-const CHANGES: [(usize, u8, Option<usize>); 20] = [
-    (0, 3, Some(0)),
-    (0, 2, Some(0)),
-    (8, 0, None),
-    (8, 200, None),
-    (16, 1, Some(9)),
-    (9, 1, Some(9)),
-    (24, 7, None),
-    (25, 255, None),
-    (33, 0, Some(33)),
-    (33, 1, Some(35)),
-    (33, 3, Some(33)),
-    (33, 255, Some(33)),
-    (34, b'-', Some(33)),
-    (36, 0, Some(36)),
-    (36, 9, Some(36)),
-    (38, b' ', Some(36)),
-    (39, 255, Some(39)),
-    (42, 0, Some(43)),
-    (42, 2, Some(39)),
-    (43, 2, None),
+// Record 2 of the same block.
+const RECORD: [u8; 76] = [
+    2, 0, 0, 0, 0, 0, 0, 0, 1, 0, 0, 0, 0, 0, 0, 0, 0, 0, 0, 0, 0, 0, 0, 0, 0, 0, 0, 0, 0, 0, 0, 0,
+    0, 2, b'a', b'1', 2, b'a', b'0', 0, 0, 0, 1, 1, 0x4b, 0xf5, 0x12, 0x2f, 0x34, 0x45, 0x54, 0xc5,
+    0x3b, 0xde, 0x2e, 0xbb, 0x8c, 0xd2, 0xb7, 0xe3, 0xd1, 0x60, 0x0a, 0xd6, 0x31, 0xc3, 0x85, 0xa5,
+    0xd7, 0xcc, 0xe2, 0x3c, 0x77, 0x85, 0x45, 0x9a,
 ];
+
+// A record, a byte at a place of it, and where it is then refused.
+const CHANGES: [(&[u8], usize, u8, Option<usize>); 26] = [
+    (&OLD_RECORD, 0, 3, Some(0)),
+    (&OLD_RECORD, 0, 2, Some(44)),
+    (&OLD_RECORD, 8, 0, None),
+    (&OLD_RECORD, 8, 200, None),
+    (&OLD_RECORD, 16, 1, Some(9)),
+    (&OLD_RECORD, 9, 1, Some(9)),
+    (&OLD_RECORD, 24, 7, None),
+    (&OLD_RECORD, 25, 255, None),
+    (&OLD_RECORD, 33, 0, Some(33)),
+    (&OLD_RECORD, 33, 1, Some(35)),
+    (&OLD_RECORD, 33, 3, Some(33)),
+    (&OLD_RECORD, 33, 255, Some(33)),
+    (&OLD_RECORD, 34, b'-', Some(33)),
+    (&OLD_RECORD, 36, 0, Some(36)),
+    (&OLD_RECORD, 36, 9, Some(36)),
+    (&OLD_RECORD, 38, b' ', Some(36)),
+    (&OLD_RECORD, 39, 255, Some(39)),
+    (&OLD_RECORD, 42, 0, Some(43)),
+    (&OLD_RECORD, 42, 2, Some(39)),
+    (&OLD_RECORD, 43, 2, None),
+    (&RECORD, 0, 1, Some(44)),
+    (&RECORD, 0, 0, Some(0)),
+    (&RECORD, 8, 200, None),
+    (&RECORD, 42, 0, Some(43)),
+    (&RECORD, 43, 2, Some(44)),
+    (&RECORD, 75, 0x9b, Some(44)),
+];
+
+// Where the bytes are refused, if they are.
+fn refused_at(alloc: Global, bytes: &[u8]) -> Result<Option<usize>, Fail> {
+    match decode(alloc, bytes) {
+        Ok(_block) => Ok(None),
+        Err(RecordFault::BadRecord { at }) => Ok(Some(at)),
+        Err(RecordFault::Mem) => Err("no memory".into()),
+    }
+}
 
 #[test]
 fn a_changed_record_is_refused_at_the_field_that_is_bad(rt: HostRuntime) -> Result<(), Fail> {
-    for (at, byte, bad) in CHANGES {
-        let mut bytes = RECORD;
+    for (record, at, byte, bad) in CHANGES {
+        let mut bytes = Vec::from_slice(rt.alloc(), record)?;
         *bytes.get_mut(at).ok_or("no such place")? = byte;
-        let refused = match decode(rt.alloc(), &bytes) {
-            Ok(_block) => None,
-            Err(RecordFault::BadRecord { at }) => Some(at),
-            Err(RecordFault::Mem) => return Err("no memory".into()),
-        };
+        let refused = refused_at(rt.alloc(), bytes.as_slice())?;
         assert!(rt; refused == bad, "at {at} with {byte}");
     }
     Ok(())
 }
 
 // How many bytes of the record there are, and the field that is cut.
-const CUTS: [(usize, usize); 14] = [
+const CUTS: [(usize, usize); 17] = [
     (0, 0),
     (1, 1),
     (8, 1),
@@ -188,41 +211,46 @@ const CUTS: [(usize, usize); 14] = [
     (39, 39),
     (42, 39),
     (43, 39),
+    (44, 44),
+    (45, 44),
+    (75, 44),
 ];
 
 #[test]
 fn a_cut_record_is_refused_at_the_field_that_is_cut(rt: HostRuntime) -> Result<(), Fail> {
     for (count, bad) in CUTS {
         let bytes = RECORD.get(..count).ok_or("no such place")?;
-        let refused = decode(rt.alloc(), bytes);
-        assert!(rt;
-            matches!(&refused, Err(RecordFault::BadRecord { at }) if *at == bad),
-            "at {count}"
-        );
+        let refused = refused_at(rt.alloc(), bytes)?;
+        assert!(rt; refused == Some(bad), "at {count}");
     }
     Ok(())
 }
 
 #[test]
 fn a_record_has_nothing_after_it(rt: HostRuntime) -> Result<(), Fail> {
-    let mut bytes = Vec::from_slice(rt.alloc(), &RECORD)?;
-    bytes.push(0)?;
-    let refused = decode(rt.alloc(), &bytes);
-    assert!(rt; matches!(refused, Err(RecordFault::BadRecord { at: 44 })));
+    for record in [OLD_RECORD.as_slice(), RECORD.as_slice()] {
+        let mut bytes = Vec::from_slice(rt.alloc(), record)?;
+        bytes.push(0)?;
+        let refused = refused_at(rt.alloc(), bytes.as_slice())?;
+        assert!(rt; refused == Some(record.len()));
+    }
     Ok(())
 }
 
 #[test]
-fn a_block_is_its_record(rt: HostRuntime) -> Result<(), Fail> {
+fn a_block_is_its_record_in_both_forms(rt: HostRuntime) -> Result<(), Fail> {
     let alloc = rt.alloc();
-    let block = decode(alloc, &RECORD).ok().ok_or("the bytes are a record")?;
-    assert_eq!(rt;
-        (block.num, block.parent_num, block.lib_num, block.time),
-        (1, 0, 0, 0)
-    );
-    assert!(rt; block.id.as_bytes() == b"a1".as_slice());
-    assert!(rt; block.parent_id.as_bytes() == b"a0".as_slice());
-    assert!(rt; block.payload.as_bytes() == [1].as_slice() && block.digest == DIGEST);
-    assert!(rt; encode(alloc, &block)?.as_slice() == RECORD.as_slice());
+    for record in [OLD_RECORD.as_slice(), RECORD.as_slice()] {
+        let block = decode(alloc, record).ok().ok_or("the bytes are a record")?;
+        assert_eq!(rt;
+            (block.num, block.parent_num, block.lib_num, block.time),
+            (1, 0, 0, 0)
+        );
+        assert!(rt; block.id.as_bytes() == b"a1".as_slice());
+        assert!(rt; block.parent_id.as_bytes() == b"a0".as_slice());
+        assert!(rt; block.payload.as_bytes() == [1].as_slice() && block.digest == DIGEST);
+        assert!(rt; encode(alloc, &block)?.as_slice() == RECORD.as_slice());
+        assert!(rt; encode_old(alloc, &block)?.as_slice() == OLD_RECORD.as_slice());
+    }
     Ok(())
 }

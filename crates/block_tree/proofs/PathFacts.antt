@@ -7,7 +7,7 @@ use Rattle.std.specs.List.{slice_get, list_any}
 use Rattle.link_rows.specs.Tree.{meeting as tree_meeting}
 use Rattle.link_rows.proofs.ListFacts.{any_at}
 use Rattle.block_tree.proofs.PlaceFacts.{bridge}
-use Rattle.block_record.proofs.ListFacts.{map_reverse}
+use Rattle.block_record.proofs.public.ListFacts.{map_reverse}
 use Rattle.block_record.specs.Ids.{same_id, same_id_refl, same_id-true}
 use Rattle.block_record.specs.declared.blocks.Slip.{Slip}
 use Rattle.chain_model.specs.Ancestry.{has_id, ancestry, IsHistory}

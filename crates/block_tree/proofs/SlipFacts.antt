@@ -6,7 +6,7 @@ use Rattle.std.proofs.lemmas.List.{length-reverse, length-map, reverse-append, r
 use Rattle.std.proofs.lemmas.List.Folds.{list_any-append}
 use Rattle.std.proofs.lemmas.Iterator.Adapters.{position_from-zero}
 use Rattle.indexmap.specs.IndexSet.{insert_key}
-use Rattle.block_record.proofs.ListFacts.{map_reverse}
+use Rattle.block_record.proofs.public.ListFacts.{map_reverse}
 use Rattle.block_record.specs.Ids.{same_id, same_id_equiv, same_id-true}
 use Rattle.block_record.specs.declared.blocks.Slip.{Slip}
 use Rattle.chain_model.specs.Ancestry.{has_id}

@@ -23,7 +23,7 @@ use Rattle.block_record.specs.declared.blocks.Version.{Version}
 use Rattle.block_record.specs.declared.blocks.Version.TheVariants.{V1, V3}
 use Rattle.block_record.specs.Number.{number_of}
 use Rattle.block_record.specs.Parents.{is_parent_num}
-use Rattle.block_record.proofs.NumberTexts.{number_of-decimal}
+use Rattle.block_record.proofs.public.NumberTexts.{number_of-decimal}
 use Rattle.block_record.specs.Slips.{slip}
 use Rattle.block_record.specs.Texts.{is_id_text, is_id_byte, is_type_text, is_visible_byte}
 use Rattle.fire_lines.specs.Parts.{parts, words, without_cr}

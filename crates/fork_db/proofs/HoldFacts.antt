@@ -5,7 +5,7 @@ use Rattle.std.specs.Option.{option_map}
 use Rattle.std.specs.Arc.{arc_value}
 use Rattle.std.proofs.lemmas.List.{append-nil}
 use Rattle.std.proofs.lemmas.Option.{same_Some}
-use Rattle.block_record.proofs.ListFacts.{all_push}
+use Rattle.block_record.proofs.public.ListFacts.{all_push}
 use Rattle.block_record.specs.declared.blocks.Slip.{Slip}
 use Rattle.block_record.specs.declared.blocks.Block.{Block}
 use Rattle.chain_model.specs.Ancestry.{IsHistory}

@@ -16,7 +16,7 @@ use Rattle.std.proofs.lemmas.List.Splits.{join_with_byte-slice_split, slice_spli
 use Rattle.block_record.specs.declared.blocks.Slip.{Slip}
 use Rattle.block_record.specs.Number.{number_of}
 use Rattle.block_record.specs.Texts.{is_id_text, is_id_byte, is_reader_text, is_reader_byte}
-use Rattle.block_record.proofs.NumberTexts.{number_of-decimal, decimal-number_of}
+use Rattle.block_record.proofs.public.NumberTexts.{number_of-decimal, decimal-number_of}
 use Rattle.one_block.specs.declared.moments.Moment.{Moment}
 use Rattle.one_block.specs.declared.names.NameParts.{NameParts}
 use Rattle.one_block.specs.Moments.{moment_of, day_text, clock_text, moment_text, IsTimely}

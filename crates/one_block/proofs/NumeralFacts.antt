@@ -5,7 +5,7 @@ use Rattle.std.proofs.lemmas.Bool.{and_parts, cases_lt, ltb-true, ltb-false, lt-
 use Rattle.std.proofs.lemmas.List.{length-append, length-replicate}
 use Rattle.std.proofs.lemmas.Fmt.{decimal_nonempty}
 use Rattle.block_record.specs.Number.{HasOtherForm, number_of}
-use Rattle.block_record.proofs.NumberTexts.{no_other_form, number_of-decimal, decimal-number_of}
+use Rattle.block_record.proofs.public.NumberTexts.{no_other_form, number_of-decimal, decimal-number_of}
 use Rattle.one_block.specs.Numerals.{padded, without_zeros, filled_number}
 
 -- what was left out are zeros

@@ -1,7 +1,7 @@
 -- Lists that are read one after another, and told with the last one first.
 use Rattle.std.proofs.Common.{◌≡◌, ◌<◌, ◌+◌, ℕ, suc, List, [], ◌∷◌, ◌++◌, length, map, reverse, take, drop, get_or, refl, sym, ap, ◌∙◌, append_assoc}
 use Rattle.std.proofs.lemmas.List.{take_more, take-append-drop, reverse-append, reverse-reverse, map-append}
-use Rattle.block_record.proofs.ListFacts.{map_reverse}
+use Rattle.block_record.proofs.public.ListFacts.{map_reverse}
 use Rattle.std.proofs.Math.Seq.{drop-cons}
 
 -- one more

@@ -15,7 +15,7 @@ use Rattle.std.proofs.lemmas.Fmt.{digits_decimal}
 use Rattle.block_record.specs.declared.blocks.BlockRef.{BlockRef}
 use Rattle.block_record.specs.Ids.{same_id, same_id-true}
 use Rattle.block_record.specs.Texts.{is_id_text, is_id_byte}
-use Rattle.block_record.proofs.NumberTexts.{number_of-decimal}
+use Rattle.block_record.proofs.public.NumberTexts.{number_of-decimal}
 use Rattle.chain_model.specs.declared.places.Step.{Step}
 use Rattle.chain_model.specs.declared.places.Step.TheVariants as step
 use Rattle.chain_model.specs.Fold.{same_ref}

@@ -10,7 +10,7 @@ use Rattle.std.proofs.lemmas.Fmt.{decimal_digit, decimal_step}
 use Rattle.block_record.specs.declared.blocks.BlockRef.{BlockRef}
 use Rattle.block_record.specs.Number.{number_of}
 use Rattle.block_record.specs.Texts.{is_id_text}
-use Rattle.block_record.proofs.NumberTexts.{decimal-number_of}
+use Rattle.block_record.proofs.public.NumberTexts.{decimal-number_of}
 use Rattle.chain_model.specs.declared.places.Step.{Step}
 use Rattle.chain_model.specs.declared.places.Step.TheVariants as step
 use Rattle.step_cursor.specs.declared.form.Form.{Form}

@@ -1,7 +1,7 @@
 -- The steps of a run from nothing lead a client to the head of the order from scratch.
 use Rattle.std.proofs.Common.{◌≡◌, inl, ℕ, List, [], ◌∷◌, ◌++◌, reverse, Option, Some, None, refl, sym, ◌∙◌, ap, subst}
 use Rattle.std.specs.List.{AllByRecursion}
-use Rattle.block_record.proofs.ListFacts.{all_reverse}
+use Rattle.block_record.proofs.public.ListFacts.{all_reverse}
 use Rattle.block_record.specs.declared.blocks.Slip.{Slip}
 use Rattle.chain_model.specs.Ancestry.{IsHistory}
 use Rattle.chain_model.specs.Finality.{ancestry_of, final_tip}

@@ -22,7 +22,7 @@ use Rattle.relay_model.specs.Worlds.{descendants, descends, room_bytes, without}
 use Rattle.relay_model.proofs.Sound.{swap_ids}
 use Rattle.wait_room.specs.declared.waiters.Waiter.{Waiter}
 use Rattle.wait_room.specs.Rooms.{slips_of, kept_of, kept_at, kept_beside, waiting_of, held_of, AreKept, HasOwnSlip, IsOwnSlip, Room, fits_in, room_where}
-use Rattle.block_record.proofs.ListFacts.{all_reverse, map_reverse}
+use Rattle.block_record.proofs.public.ListFacts.{all_reverse, map_reverse}
 use Rattle.wait_room.proofs.TurnedFacts.{all_of, filter_all, filter_turned, map_filter, turned_cons, turned_push}
 
 abbrev pub room_of : List Slip → List (Option Block) → ℕ → ℕ → Room

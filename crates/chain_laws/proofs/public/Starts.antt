@@ -2,7 +2,7 @@
 use Rattle.std.proofs.Common.{◌≡◌, ◌⊎◌, inl, inr, ℕ, Bool, true, false, not, cond, List, [], ◌∷◌, ◌++◌, map, reverse, Option, Some, None, refl, sym, ◌∙◌, ap, subst, append_assoc}
 use Rattle.std.specs.List.{filter}
 use Rattle.std.proofs.lemmas.List.{append-nil, reverse-reverse}
-use Rattle.block_record.proofs.ListFacts.{all_reverse}
+use Rattle.block_record.proofs.public.ListFacts.{all_reverse}
 use Rattle.block_record.specs.declared.blocks.Slip.{Slip}
 use Rattle.block_record.specs.declared.blocks.BlockRef.{BlockRef}
 use Rattle.chain_model.specs.declared.places.Place.{Place}

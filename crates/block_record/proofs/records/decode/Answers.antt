@@ -1,5 +1,5 @@
 use Rattle.std.proofs.Common.{arith}
-use Rattle.block_record.proofs.RecordFacts.{is_text, is_back, is_fault}
+use Rattle.block_record.proofs.DecodeFacts.{is_text, is_back, is_fault}
 use Rattle.block_record.proofs.records.decode.Goals as goal
 
 pub returns-clause-text : goal.returns-clause-text

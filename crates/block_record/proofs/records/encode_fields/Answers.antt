@@ -1,4 +1,4 @@
-use Rattle.block_record.proofs.records.encode.Goals as goal
+use Rattle.block_record.proofs.records.encode_fields.Goals as goal
 
 pub returns-clause-recordable : goal.returns-clause-recordable
 returns-clause-recordable c = record {

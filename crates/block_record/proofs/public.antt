@@ -1,0 +1,5 @@
+-- The lemmas that other crates may cite.
+pub mod ListFacts
+pub mod NumberTexts
+pub mod RecordFacts
+pub mod SlipFacts
