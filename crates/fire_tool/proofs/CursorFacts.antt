@@ -1,19 +1,12 @@
 -- Runs of the command `cursor`, and of words that name no command.
-use Rattle.std.proofs.Common.{◌≡◌, ◌⊎◌, ℕ, Bool, false, List, [], Option, None, Some, Result, Ok, Err, refl, sym, subst, inl, inr, arith}
+use Rattle.std.proofs.Common.{◌≡◌, ◌⊎◌, ℕ, Bool, false, List, Option, None, Some, Result, Ok, Err, sym, subst, inl, inr, arith}
 use Rattle.std.specs.Result.{is_err, MatchResult}
 use Rattle.std.specs.Str.{IsUtf8}
-use Rattle.std.proofs.lemmas.List.{append-nil}
 use Rattle.outer_world.specs.Causes.{Rose}
-use Rattle.outer_world.specs.Told.{Grows, GrowsByFront, Took}
+use Rattle.outer_world.specs.Told.{Grows, GrowsByFront}
+use Rattle.outer_world.proofs.TakenFacts.{took_nothing}
 use Rattle.fire_tool.specs.Runs.{Misused, Runs, Streams, flow, steps_first, streams}
 use Rattle.fire_tool.specs.CursorCommand.{cursor_value, CursorAnswered, CursorRun, RunsCommand, RunsPlain}
-
--- nothing was taken of a source
-pub took_nothing : (left given : Option (List ℕ)) → Took left left given given []
-took_nothing None None = record { first = tt; last = tt }
-took_nothing None (Some ys) = record { first = tt; last = sym (append-nil ys) }
-took_nothing (Some xs) None = record { first = refl; last = tt }
-took_nothing (Some xs) (Some ys) = record { first = refl; last = sym (append-nil ys) }
 
 -- a text that was read as UTF-8 is UTF-8
 pub utf8_read : {T E : Type 0} (text : List ℕ) (r : Result T E) (A : T → Type 0) (B : E → Type 0) (bad : Bool) → bad ≡ is_err r → bad ≡ false → MatchResult r (λ s. A s × IsUtf8 text) B → IsUtf8 text

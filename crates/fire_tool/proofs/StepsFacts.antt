@@ -5,9 +5,9 @@ use Rattle.std.specs.Io.KnownBytes.{Consumes, Keeps, IsAtEnd}
 use Rattle.relay_model.specs.Worlds.{World}
 use Rattle.chain_model.specs.declared.places.Place.{Place}
 use Rattle.outer_world.specs.Causes.{Rose}
-use Rattle.outer_world.specs.Told.{Grows, GrowsByFront, Took}
+use Rattle.outer_world.specs.Told.{Gains, Grows, GrowsByFront, Took}
 use Rattle.outer_world.proofs.Fronts.{grows_twice}
-use Rattle.outer_world.proofs.TakenFacts.{took_more}
+use Rattle.outer_world.proofs.TakenFacts.{gains_none, took_more}
 use Rattle.fire_lines.specs.Reader.{ReaderState}
 use Rattle.step_laws.proofs.ScratchFacts.{step_text_from_scratch}
 use Rattle.fire_tool.specs.declared.progress.RunEnd.{RunEnd}
@@ -77,7 +77,7 @@ pub flows_first : (first : ℕ) (before : Flow) (reader : ReaderState) (world : 
 flows_first first before reader world place u = record {
   input = [];
   told = [];
-  took = record { first = consumes_none before.left; last = grows_none before.given };
+  took = record { first = consumes_none before.left; last = gains_none before.given };
   under_way = u;
   wrote = grows_none before.written;
   counted = refl;
@@ -89,14 +89,14 @@ flows_first first before reader world place u = record {
 pub ran_out_first : (first : ℕ) (before : Flow) → RanOut first before before
 ran_out_first first before = record {
   input = [];
-  took = record { first = consumes_none before.left; last = grows_none before.given };
+  took = record { first = consumes_none before.left; last = gains_none before.given };
   text = ([], ((step_text first []).text, refl), grows_none before.written);
 }
 
 -- a piece more
 pub flows_on : (first : ℕ) (before mid : Flow) (left given written : Option (List ℕ)) (read_faults write_faults : ℕ) (reader new : ReaderState) (world later : World) (place to : Place) (count n : ℕ) (piece : List ℕ)
     (i : IsFlowing first before mid reader world place count)
-    → Consumes mid.left left piece → Grows mid.given given piece → mid.read_faults ≤ read_faults → mid.write_faults ≤ write_faults → length piece ≡ n
+    → Consumes mid.left left piece → Gains mid.given given piece → mid.read_faults ≤ read_faults → mid.write_faults ≤ write_faults → length piece ≡ n
     → PieceTaken first (i.input ++ piece) before.written written mid.write_faults write_faults new later to (Ok None)
     → IsFlowing first before (flow left given read_faults written write_faults) new later to (count + n)
 flows_on first before mid left given written read_faults write_faults reader new world later place to count n piece i begun last reads writes size taken = record {
@@ -122,11 +122,11 @@ consumes_kept (Some x) (Some y) (Some z) xs h k = h ∙ ap (λ l. xs ++ l) (sym 
 -- the input ended
 pub ends_whole : (first : ℕ) (before mid : Flow) (left given : Option (List ℕ)) (read_faults : ℕ) (reader : ReaderState) (world : World) (place : Place) (count : ℕ) (line : List ℕ)
     (buf : List ℕ) (n : ℕ) (i : IsFlowing first before mid reader world place count) → n ≡ 0 → Consumes mid.left left (take n buf) → (n ≡ 0 → 0 < length buf → IsAtEnd left) → 0 < length buf
-    → Grows mid.given given (take n buf) → line ≡ []
+    → Gains mid.given given (take n buf) → line ≡ []
     → Answered first before (flow left given read_faults mid.written mid.write_faults) line 0
 ends_whole first before mid left given read_faults reader world place count line buf n i is begun' end' room last' none =
     let begun : Consumes mid.left left [] = subst (λ (m : ℕ). Consumes mid.left left (take m buf)) is begun' in
-    let last : Grows mid.given given [] = subst (λ (m : ℕ). Grows mid.given given (take m buf)) is last' in
+    let last : Gains mid.given given [] = subst (λ (m : ℕ). Gains mid.given given (take m buf)) is last' in
     let end : IsAtEnd left = end' is room in
     let text = text_under_way first i.input i.told reader world place i.under_way in
     let took : Took before.left left before.given given (i.input ++ []) = took_more _ _ _ _ _ _ i.input [] i.took begun last in
@@ -149,7 +149,7 @@ ends_at_read first before mid left given read_faults reader world place count i 
     let text = text_under_way first i.input i.told reader world place i.under_way in
     record {
       input = i.input;
-      took = record { first = consumes_kept _ _ _ i.input i.took.first begun; last = subst (λ (x : Option (List ℕ)). Grows before.given x i.input) (sym last) i.took.last };
+      took = record { first = consumes_kept _ _ _ i.input i.took.first begun; last = subst (λ (x : Option (List ℕ)). Gains before.given x i.input) (sym last) i.took.last };
       cause = rose_later _ _ _ i.reads cause;
       text = subst (λ (x : StepText). Grows before.written mid.written x.text) (sym text) i.wrote;
     }
@@ -167,7 +167,7 @@ ends_too_long first before after reader world place count i long =
 
 -- the piece had no memory, or its text was not written
 pub stops_in_piece : (first : ℕ) (before mid : Flow) (left given written : Option (List ℕ)) (read_faults write_faults : ℕ) (reader new : ReaderState) (world later : World) (place to : Place) (count : ℕ) (piece : List ℕ) (stop : StepsStop)
-    (i : IsFlowing first before mid reader world place count) → Consumes mid.left left piece → Grows mid.given given piece
+    (i : IsFlowing first before mid reader world place count) → Consumes mid.left left piece → Gains mid.given given piece
     → PieceTaken first (i.input ++ piece) before.written written mid.write_faults write_faults new later to (Err stop)
     → Stopped first stop before (flow left given read_faults written write_faults)
 stops_in_piece first before mid left given written read_faults write_faults reader new world later place to count piece Mem i begun last h = record {
@@ -192,7 +192,7 @@ no_end_status status (inr (inr twelve)) zero_is = omega arith
 -- the piece ended the run
 pub ends_in_piece : (first : ℕ) (before mid : Flow) (left given written : Option (List ℕ)) (read_faults write_faults : ℕ) (reader new : ReaderState) (world later : World) (place to : Place) (count : ℕ) (piece : List ℕ)
     (end : RunEnd) (line : List ℕ) (status : ℕ)
-    (i : IsFlowing first before mid reader world place count) → Consumes mid.left left piece → Grows mid.given given piece
+    (i : IsFlowing first before mid reader world place count) → Consumes mid.left left piece → Gains mid.given given piece
     → PieceTaken first (i.input ++ piece) before.written written mid.write_faults write_faults new later to (Ok (Some end))
     → line ≡ ending_line (ending_seen end) → status ≡ ending_status (ending_seen end) → IsEndStatus status
     → Answered first before (flow left given read_faults written write_faults) line status
@@ -209,7 +209,7 @@ ends_in_piece first before mid left given written read_faults write_faults reade
 
 -- there was no memory for its line
 pub ends_without_line : (first : ℕ) (before mid : Flow) (left given written : Option (List ℕ)) (read_faults write_faults : ℕ) (reader new : ReaderState) (world later : World) (place to : Place) (count : ℕ) (piece : List ℕ) (end : RunEnd)
-    (i : IsFlowing first before mid reader world place count) → Consumes mid.left left piece → Grows mid.given given piece
+    (i : IsFlowing first before mid reader world place count) → Consumes mid.left left piece → Gains mid.given given piece
     → PieceTaken first (i.input ++ piece) before.written written mid.write_faults write_faults new later to (Ok (Some end))
     → RanOut first before (flow left given read_faults written write_faults)
 ends_without_line first before mid left given written read_faults write_faults reader new world later place to count piece end i begun last h = record {
@@ -225,7 +225,7 @@ ends_known (Err stop) h = tt
 
 -- so it is with what the code answers
 pub ends_by : (first : ℕ) (before mid : Flow) (left given written : Option (List ℕ)) (read_faults write_faults : ℕ) (reader new : ReaderState) (world later : World) (place to : Place) (count : ℕ) (piece : List ℕ) (end : RunEnd)
-    (r : Result Ended StepsStop) (i : IsFlowing first before mid reader world place count) → Consumes mid.left left piece → Grows mid.given given piece
+    (r : Result Ended StepsStop) (i : IsFlowing first before mid reader world place count) → Consumes mid.left left piece → Gains mid.given given piece
     → PieceTaken first (i.input ++ piece) before.written written mid.write_faults write_faults new later to (Ok (Some end))
     → IfOk r (λ e. e.line.items ≡ ending_line (ending_seen end)) → IfOk r (λ e. e.status ≡ ending_status (ending_seen end)) → IfOk r (λ e. IsEndStatus e.status) → IfErr r (λ stop. stop ≡ Mem)
     → MatchResult r (λ e. Answered first before (flow left given read_faults written write_faults) e.line.items e.status) (λ stop. Stopped first stop before (flow left given read_faults written write_faults))

@@ -1,5 +1,5 @@
 use crate::{FailingSink, FailingSource, MemorySink, MemorySource, PiecesSource};
-use outer_world::{Failed, ReadStop, Sink, Source, read_whole, write_whole};
+use outer_world::{Failed, Sink, Source, write_whole};
 use std::alloc::{AllocError, Global};
 use std::test::Fail;
 
@@ -54,40 +54,6 @@ fn a_source_is_cut_and_fails_by_its_lists(rt: HostRuntime) -> Result<(), Fail> {
         assert!(rt; reads.as_slice() == wanted, "at {wanted:?}");
         let failed = wanted.iter().filter(|read| read.is_none()).count();
         assert_eq!(rt; source.faults(), failed as u64, "at {wanted:?}");
-    }
-    Ok(())
-}
-
-// The calls that fail, and the text that each try to read all gives, none where it fails.
-type Wholes = (&'static [u64], &'static [Option<&'static [u8]>]);
-
-const WHOLES: [Wholes; 5] = [
-    (&[], &[Some(b"abcde")]),
-    (&[0], &[None, Some(b"abcde")]),
-    (&[1], &[None, Some(b"cde")]),
-    (&[0, 2], &[None, None, Some(b"cde")]),
-    (&[3], &[None, Some(b"")]),
-];
-
-#[test]
-fn a_whole_text_is_read_unless_a_call_fails(rt: HostRuntime) -> Result<(), Fail> {
-    let alloc = rt.alloc();
-    for (fails, wanted) in WHOLES {
-        let pieces = PiecesSource::new(
-            Vec::from_slice(alloc, b"abcde")?,
-            Vec::from_slice(alloc, &[2, 2])?,
-        );
-        let mut source = FailingSource::new(pieces, Vec::from_slice(alloc, fails)?);
-        for text in wanted {
-            match (read_whole(alloc, &mut source), text) {
-                (Ok(read), Some(text)) => assert!(rt; read.as_slice() == *text, "at {fails:?}"),
-                (Err(stop), None) => assert_eq!(rt; stop, ReadStop::Fault, "at {fails:?}"),
-                _ => assert!(rt; false, "at {fails:?}"),
-            }
-        }
-        assert_eq!(rt; source.faults(), fails.len() as u64, "at {fails:?}");
-        let mut pieces = source.into_inner();
-        assert_eq!(rt; pieces.read(&mut [0]), Ok(0), "at {fails:?}");
     }
     Ok(())
 }

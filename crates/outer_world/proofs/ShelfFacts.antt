@@ -1,11 +1,11 @@
 -- What is told of a shelf after a file was read or written.
-use Rattle.std.proofs.Common.{arith, ◌≡◌, ◌+◌, ◌<◌, ◌≤◌, ℕ, List, [], ◌++◌, length, take, drop, Option, Some, None, refl, sym, ◌∙◌, ap, subst, inl, inr, length-append}
-use Rattle.std.proofs.lemmas.List.{take_all, length-drop, length-take}
+use Rattle.std.proofs.Common.{arith, ◌≡◌, ◌+◌, ◌<◌, ◌≤◌, ℕ, List, [], ◌++◌, length, take, drop, Option, Some, None, Result, Ok, Err, OnErr, refl, sym, ◌∙◌, ap, subst, inl, inr, length-append}
+use Rattle.std.proofs.lemmas.List.{append-nil, take_all, length-drop, length-take}
 use Rattle.std.proofs.Math.Seq.{take-add}
 use Rattle.std.proofs.lemmas.Option.{same_Some}
 use Rattle.std.specs.Option.{option_map, unwrap_or}
 use Rattle.outer_world.specs.Files.{Files, file_at}
-use Rattle.outer_world.specs.Shelves.{HasSize, Holds, ReadsFile, ReadsText, Commits, CommitRefused, KeepsOthers, emptied, with_piece, told_with}
+use Rattle.outer_world.specs.Shelves.{HasSize, Holds, ReadsFile, ReadsText, Commits, CommitRefused, KeepsOthers, StagesFront, emptied, with_piece, told_with}
 use Rattle.outer_world.specs.declared.shelves.ShelfFail.{ShelfFail}
 use Rattle.outer_world.specs.declared.shelves.ShelfFail.TheVariants.{Failed, Mem}
 use Rattle.outer_world.proofs.FileFacts.{file_at-with_other}
@@ -95,4 +95,22 @@ others_refused Mem files now new before staged after name text same is h = subst
 others_refused Failed files now new before staged after name text same is h = elim h.0 [
   | inl e ↦ subst (KeepsOthers name files) (sym (e ∙ same)) (keeps_same name files)
   | inr c ↦ others_committed files now new before staged name text same is c
+]
+
+-- what holds, holds at an error
+pub on_err_of : {T E P : Type 0} (r : Result T E) → P → OnErr r P
+on_err_of (Ok x) p = tt
+on_err_of (Err e) p = p
+
+emptied_after : (before : Option (List ℕ)) (text : List ℕ) → emptied (with_piece (emptied before) text) ≡ with_piece (emptied before) []
+emptied_after None text = refl
+emptied_after (Some old) text = refl
+
+-- what is staged after a commit that was refused is the text, or nothing
+pub front_refused : (fail : ShelfFail) (files now new : Option Files) (before staged after : Option (List ℕ)) (name text : List ℕ)
+    → staged ≡ with_piece (emptied before) text → CommitRefused fail now staged name new after → StagesFront (emptied before) after text
+front_refused Mem files now new before staged after name text is h = (text, ([], append-nil text), h.1 ∙ is)
+front_refused Failed files now new before staged after name text is h = elim h.1 [
+  | inl e ↦ (text, ([], append-nil text), e ∙ is)
+  | inr e ↦ ([], (text, refl), e ∙ ap emptied is ∙ emptied_after before text)
 ]

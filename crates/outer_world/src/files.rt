@@ -2,7 +2,7 @@
 
 ghost use Rattle.std.specs.Prelude.{◌≡◌, Some, IfOk, IfErr, OnOk, OnErr};
 ghost use Rattle.std.specs.Option.{option_map};
-ghost use Rattle.outer_world.specs.Shelves.{HasShelfCause, HasSize, Holds, KeepsOthers, WriteRefused, told_with};
+ghost use Rattle.outer_world.specs.Shelves.{HasShelfCause, HasSize, Holds, KeepsOthers, StagesFront, WriteRefused, emptied, told_with};
 
 use crate::names::FileName;
 use crate::shelves::{Shelf, ShelfFail};
@@ -53,11 +53,14 @@ fn read_text<S: Shelf>(
     Ok(text)
 }
 
-/// Writes a file at once, in place of the one that was there. The staged text is given up. Where it
-/// failed the file is the old one or the new one.
+/// Writes a file at once, in place of the one that was there. The text that was staged before is
+/// given up, and none is staged after it. Where it failed the file is the old one or the new one, and
+/// a front of the text may be staged.
 pub fn write_file<S: Shelf>(shelf: &mut S, name: &FileName, text: &[u8]) -> Result<(), ShelfFail>
     ensures put { OnOk result (S.files shelf.new ≡ told_with name.now text.now (S.files shelf.old)) }
     ensures refused { IfErr result (λ fail. WriteRefused fail name.now text.now (S.files shelf.old) (S.files shelf.new)) }
+    ensures emptied { OnOk result (S.staged shelf.new ≡ emptied (S.staged shelf.old)) }
+    ensures front { OnErr result (StagesFront (emptied (S.staged shelf.old)) (S.staged shelf.new) text.now) }
     ensures others { KeepsOthers name.now (S.files shelf.old) (S.files shelf.new) }
     ensures cause { HasShelfCause (S.shelf_faults shelf.old) (S.shelf_faults shelf.new) result }
 {

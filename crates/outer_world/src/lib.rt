@@ -7,7 +7,7 @@ mod names;
 mod shelves;
 mod traits;
 
-pub use calls::{ReadStop, TEXT_BYTES_MAX, read_whole, write_whole};
+pub use calls::{TEXT_BYTES_MAX, write_whole};
 pub use files::{read_file, write_file};
 pub use names::FileName;
 pub use shelves::{Shelf, ShelfFail};

@@ -1,5 +1,5 @@
 use Rattle.std.proofs.Common.{refl}
-use Rattle.fire_tool.proofs.CursorFacts.{took_nothing}
+use Rattle.outer_world.proofs.TakenFacts.{took_nothing}
 use Rattle.fire_tool.proofs.run.refuse_words.Goals as goal
 
 pub returns : goal.returns

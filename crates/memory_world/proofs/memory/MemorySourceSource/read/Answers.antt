@@ -1,4 +1,4 @@
-use Rattle.std.proofs.Common.{ap}
+use Rattle.std.proofs.Common.{Some, ap}
 use Rattle.std.proofs.Math.Seq.{length_front}
 use Rattle.memory_world.proofs.ReadFacts.{left_read, given_read}
 use Rattle.memory_world.proofs.memory.MemorySourceSource.read.Goals as goal
@@ -10,4 +10,5 @@ returns-clause-left c =
 
 pub returns-clause-given : goal.returns-clause-given
 returns-clause-given c =
-    given_read _ _ _ _ c.args.buf.now _ _ (ap (λ v. v.given) c.self.view_is) (rw c.deref.ensures.value at c.copy_from_slice.ensures.after) c.self.invariant (rw (c.len.ensures, ← c.deref.ensures.len, c.deref.ensures.value) at c.min-count.ensures)
+    ap Some
+    (given_read _ _ _ _ c.args.buf.now _ _ (ap (λ v. v.given) c.self.view_is) (rw c.deref.ensures.value at c.copy_from_slice.ensures.after) c.self.invariant (rw (c.len.ensures, ← c.deref.ensures.len, c.deref.ensures.value) at c.min-count.ensures))
