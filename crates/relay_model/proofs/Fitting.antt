@@ -1,8 +1,8 @@
 -- A batch at the start begins at a place that fits.
-use Rattle.std.proofs.Common.{arith, ◌≡◌, ℕ, Bool, true, false, not, cond, List, [], ◌∷◌, length, Option, Some, None, refl, sym, ◌∙◌, ap, subst, ◌&&◌, if◌then◌else◌}
+use Rattle.std.proofs.Common.{arith, ◌≡◌, ◌≤◌, ltb, ℕ, Bool, true, false, not, cond, List, [], ◌∷◌, length, Option, Some, None, refl, sym, ◌∙◌, ap, subst, ◌&&◌, if◌then◌else◌}
 use Rattle.std.specs.Prelude.{IsSomeAnd}
 use Rattle.std.proofs.Math.Dec.{eqb}
-use Rattle.std.proofs.lemmas.Bool.{and_parts, both_ways, eqb-true, ltb-false}
+use Rattle.std.proofs.lemmas.Bool.{and_parts, both_ways, eq-eqb, eqb-true, ltb-false}
 use Rattle.std.proofs.lemmas.Option.{same_Some}
 use Rattle.block_record.specs.declared.blocks.Slip.{Slip}
 use Rattle.block_record.specs.declared.blocks.BlockRef.{BlockRef}
@@ -18,6 +18,7 @@ use Rattle.chain_model.specs.Places.{IsHeld, PlaceFits, IsAhead, opening}
 use Rattle.chain_laws.proofs.public.Ends.{opening_fits}
 use Rattle.step_cursor.specs.declared.cursor.Cursor.{Cursor}
 use Rattle.step_cursor.specs.declared.cursor.Request.{Request}
+use Rattle.step_cursor.specs.declared.cursor.Tail.{Tail}
 use Rattle.step_cursor.specs.declared.cursor.MisfitField.{MisfitField}
 use Rattle.step_cursor.specs.declared.cursor.MisfitField.TheVariants as field
 use Rattle.step_cursor.specs.Fitting.{HasShape, StepFitsAt, CursorFits}
@@ -58,28 +59,30 @@ shape_of newest step.NewFinal block end lib e =
     (ref_is end block p.0, ref_is lib block p.1)
 
 -- what the tests find where no field is wrong
-record IsRight (a b c d : Bool) : Type 0 where
+record IsRight (a b c d e : Bool) : Type 0 where
   block : a ≡ true
   end : b ≡ true
   lib : c ≡ true
   shape : d ≡ true
+  seen : e ≡ false
 
 right : (a b c d e : Bool)
     → (if not a then Some field.Block else if not b then Some field.End else if not c then Some field.Lib else if not d then Some field.Step else if e then Some field.Seen else None) ≡ None
-    → IsRight a b c d
-right true true true true e h = record { block = refl; end = refl; lib = refl; shape = refl }
+    → IsRight a b c d e
+right true true true true true h = absurd (grind (arith, h))
+right true true true true false h = record { block = refl; end = refl; lib = refl; shape = refl; seen = refl }
 right true true true false e h = absurd (grind (arith, h))
 right true true false d e h = absurd (grind (arith, h))
 right true false c d e h = absurd (grind (arith, h))
 right false b c d e h = absurd (grind (arith, h))
 
 -- a step of which no field is wrong fits
-step_fits : (newest : List Slip) (kind : Step) (block : BlockRef) (end lib : Option BlockRef)
-    → IsRight (is_held newest block) (end_fits newest end) (lib_fits newest end lib) (shape_holds newest kind block (record { end = end; lib = lib }))
+step_fits : (newest : List Slip) (kind : Step) (block : BlockRef) (end lib : Option BlockRef) (more : Bool)
+    → IsRight (is_held newest block) (end_fits newest end) (lib_fits newest end lib) (shape_holds newest kind block (record { end = end; lib = lib })) more
     → StepFitsAt newest kind block end lib
-step_fits newest kind block None lib r = absurd (both_ways _ refl r.end)
-step_fits newest kind block (Some e) None r = absurd (both_ways _ refl r.lib)
-step_fits newest kind block (Some e) (Some l) r =
+step_fits newest kind block None lib more r = absurd (both_ways _ refl r.end)
+step_fits newest kind block (Some e) None more r = absurd (both_ways _ refl r.lib)
+step_fits newest kind block (Some e) (Some l) more r =
     let p = and_parts (is_held newest l && has_id (final_ancestry newest) l.id) (has_id (ancestry newest e.id) l.id) r.lib in
     let q = and_parts (is_held newest l) (has_id (final_ancestry newest) l.id) p.0 in
     record {
@@ -94,11 +97,19 @@ place_fits newest kind block None lib f = absurd f
 place_fits newest kind block (Some e) None f = absurd f
 place_fits newest kind block (Some e) (Some l) f = f.place
 
--- a cursor of which no field is wrong fits
+-- a cursor of which no field is wrong
+right_cursor : (run : ℕ) (newest : List Slip) (c : Cursor) → misfit run newest c ≡ None
+    → IsRight (is_held newest c.block) (end_fits newest c.place.end) (lib_fits newest c.place.end c.place.lib) (shape_holds newest c.step c.block c.place) (is_ahead run newest c.tail)
+right_cursor run newest c e =
+    right (is_held newest c.block) (end_fits newest c.place.end) (lib_fits newest c.place.end c.place.lib) (shape_holds newest c.step c.block c.place) (is_ahead run newest c.tail) e
+
+-- it fits
 pub cursor_fits : (run : ℕ) (newest : List Slip) (c : Cursor) → misfit run newest c ≡ None → CursorFits c newest
-cursor_fits run newest c e =
-    step_fits newest c.step c.block c.place.end c.place.lib
-    (right (is_held newest c.block) (end_fits newest c.place.end) (lib_fits newest c.place.end c.place.lib) (shape_holds newest c.step c.block c.place) (is_ahead run newest c.tail) e)
+cursor_fits run newest c e = step_fits newest c.step c.block c.place.end c.place.lib (is_ahead run newest c.tail) (right_cursor run newest c e)
+
+-- and a tail of this run saw no more than there is
+saw_no_more : (run : ℕ) (newest : List Slip) (t : Tail) → is_ahead run newest (Some t) ≡ false → t.run ≡ run → t.seen ≤ length newest
+saw_no_more run newest t e same = let less : ltb (length newest) t.seen ≡ false = rw (eq-eqb t.run run same) at e in ltb-false (length newest) t.seen less
 
 -- what a batch from a place says
 record IsFrom (w : World) (r : Request) (begin : Place) (len : ℕ) (place : Place) : Type 0 where
@@ -138,7 +149,9 @@ opened w r len place sound (s ∷ older) is open' e =
       whole = f.whole;
       fits = subst (λ (p : Place). PlaceFits w.history p.end p.lib) (sym f.begins) (opening_fits w.history r.start sound.history);
       ahead = subst (λ (p : Place). IsAhead r.stop p.end) (sym f.begins) f.ahead;
+      opens = λ k. f.begins;
       cursor = λ c k. absurd (none c (sym open' ∙ k));
+      seen = λ c t k. absurd (none c (sym open' ∙ k));
     }
   where
     none : (c : Cursor) → None ≡ Some c → ⊥
@@ -148,6 +161,9 @@ opened w r len place sound (s ∷ older) is open' e =
 went_on : (w : World) (r : Request) (c : Cursor) (len : ℕ) (place : Place) → r.cursor ≡ Some c → look_cursor w r c ≡ Batch len place → BatchBegins w r len place
 went_on w r c len place is = go (is_ahead w.run w.history c.tail && not w.closed)
   where
+    some : None ≡ Some c → ⊥
+    some h = cc
+
     fitted : (m : Option MisfitField) → misfit w.run w.history c ≡ m → look_fitted w r c m ≡ Batch len place → BatchBegins w r len place
     fitted (Some f) k e = absurd (grind (arith, e))
     fitted None k e =
@@ -157,6 +173,8 @@ went_on w r c len place is = go (is_ahead w.run w.history c.tail && not w.closed
           whole = f.whole;
           fits = subst (λ (p : Place). PlaceFits w.history p.end p.lib) (sym f.begins) (place_fits w.history c.step c.block c.place.end c.place.lib fits);
           ahead = subst (λ (p : Place). IsAhead r.stop p.end) (sym f.begins) f.ahead;
+          opens = λ h. absurd (some (sym h ∙ is));
+          seen = λ d t h tail. saw_no_more w.run w.history t (subst (λ (o : Option Tail). is_ahead w.run w.history o ≡ false) tail (subst (λ (x : Cursor). is_ahead w.run w.history x.tail ≡ false) (same_Some c d (sym is ∙ h)) (right_cursor w.run w.history c k).seen));
           cursor = λ d h. (f.begins ∙ ap (λ x. x.place) (same_Some c d (sym is ∙ h)), subst (λ (x : Cursor). CursorFits x w.history) (same_Some c d (sym is ∙ h)) fits);
         }
 

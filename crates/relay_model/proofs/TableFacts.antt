@@ -22,6 +22,11 @@ offers_by_table = record {
   others = refl;
   stays = refl;
   shut = refl;
+  bytes = refl;
+  drops_two = refl;
+  root_kind = refl;
+  beside_root = refl;
+  entries = refl;
 }
 
 pub looks_by_table : LookTable
@@ -45,6 +50,12 @@ looks_by_table = record {
   idle = refl;
   closing = refl;
   empty = refl;
+  empty_closed = refl;
+  unknown_end = refl;
+  block_before_end = refl;
+  end_before_lib = refl;
+  lib_before_step = refl;
+  step_before_seen = refl;
 }
 
 pub orders_by_table : OrderTable
@@ -54,6 +65,9 @@ orders_by_table = record {
   first = refl;
   alone = refl;
   by_number = refl;
+  numbers = refl;
+  repeats = refl;
   branches = refl;
   waits_on = refl;
+  opened = refl;
 }

@@ -1,15 +1,16 @@
 -- The laws of one offer and one look, as statements.
-use Rattle.std.specs.Prelude.{ℕ, ◌≡◌, false, List, [], ◌∷◌, ◌++◌, length, Option, Some}
+use Rattle.std.specs.Prelude.{ℕ, ◌≡◌, ◌≤◌, false, List, [], ◌∷◌, ◌++◌, length, Option, None, Some}
 use Rattle.std.specs.List.{AllByRecursion}
 use mathlib.Core.List.{IsSuffix}
 use Rattle.block_record.specs.declared.blocks.Slip.{Slip}
 use Rattle.chain_model.specs.Steps.{ref_of}
-use Rattle.chain_model.specs.Places.{PlacedStep, steps_to, PlaceFits, IsAhead}
+use Rattle.chain_model.specs.Places.{PlacedStep, steps_to, PlaceFits, IsAhead, opening}
 use Rattle.chain_model.specs.declared.places.Place.{Place}
 use Rattle.chain_model.specs.declared.places.Mode.{Mode}
 use Rattle.step_cursor.specs.declared.cursor.Cursor.{Cursor}
 use Rattle.step_cursor.specs.Fitting.{CursorFits}
 use Rattle.step_cursor.specs.declared.cursor.Request.{Request}
+use Rattle.step_cursor.specs.declared.cursor.Tail.{Tail}
 use Rattle.step_cursor.specs.declared.cursor.MisfitField.{MisfitField}
 use Rattle.relay_model.specs.declared.answers.Conflict.{Conflict as Clash}
 use Rattle.relay_model.specs.Worlds.{World}
@@ -49,12 +50,14 @@ abbrev pub OfferAdds : Type 0
 OfferAdds = (es : List Entry) (s : Slip) → IsSound (world_of es) → IsBlock s
     → world_of (added (world_of es) s ++ es) ≡ record (offered (world_of es) s).world { conflicts = [] }
 
--- a batch at the start has the whole history and begins at a place that fits it, with the stop not below its end; from a cursor it is the cursor's place, and the cursor fits
+-- a batch at the start has the whole history and begins at a place that fits it, with the stop not below its end: without a cursor it is the opening of the start; from a cursor it is the cursor's place, and the cursor fits and saw no more of this run than there is
 pub record BatchBegins (w : World) (r : Request) (len : ℕ) (place : Place) : Type 0 where
   pub whole : len ≡ length w.history
   pub fits : PlaceFits w.history place.end place.lib
   pub ahead : IsAhead r.stop place.end
+  pub opens : r.cursor ≡ None → place ≡ opening w.history r.start
   pub cursor : (c : Cursor) → r.cursor ≡ Some c → (place ≡ c.place) × CursorFits c w.history
+  pub seen : (c : Cursor) (t : Tail) → r.cursor ≡ Some c → c.tail ≡ Some t → t.run ≡ w.run → t.seen ≤ length w.history
 
 -- so does each batch that answers a look at the start of a sound world
 abbrev pub BatchFits : Type 0

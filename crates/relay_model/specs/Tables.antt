@@ -11,11 +11,12 @@ use Rattle.step_cursor.specs.declared.cursor.Cursor.{Cursor}
 use Rattle.step_cursor.specs.declared.cursor.Request.{Request}
 use Rattle.step_cursor.specs.declared.cursor.MisfitField.TheVariants as field
 use Rattle.relay_model.specs.Worlds.{World, Limits}
-use Rattle.relay_model.specs.Offers.{Answer, Closed, Duplicate, Conflict, Early, Stale, WaitFull, Waiting, HistoryFull, Admitted, offered, conflict}
+use Rattle.relay_model.specs.Offers.{Answer, Closed, Duplicate, Conflict, Early, Stale, WaitFull, Waiting, HistoryFull, Admitted, offered, conflict, plain_kind}
 use Rattle.relay_model.specs.Looks.{Batch, NotYet, Done, Closing, Unknown, Misfit, StopBelow, Start, At, looked}
-use Rattle.relay_model.specs.Orders.{linked_order}
+use Rattle.relay_model.specs.Orders.{linked_order, once}
 use Rattle.relay_model.specs.Runs.{empty_world}
-use Rattle.relay_model.specs.Chronicles.{world_of}
+use Rattle.relay_model.specs.Chronicles.{world_of, added}
+use Rattle.block_record.specs.declared.blocks.Version.TheVariants as version
 use Rattle.relay_model.specs.Chronicles as entry
 
 -- an id of a letter and a number
@@ -153,6 +154,14 @@ circle_x = block 5 (id 120 5) 4 (id 121 5) 1
 abbrev pub circle_y : Slip
 circle_y = block 5 (id 121 5) 4 (id 120 5) 1
 
+-- 3/w3(b2, 3)
+abbrev pub w3 : Slip
+w3 = block 3 (id 119 3) 2 (id 98 2) 3
+
+-- 1/f1(a1, 0), which names 0 as the number of its parent
+abbrev pub f1 : Slip
+f1 = block 1 (id 102 1) 0 (id 97 1) 0
+
 -- what offers are answered
 pub record OfferTable : Type 0 where
   -- a branch that is final first, then a block on the ruled-out branch
@@ -178,6 +187,15 @@ pub record OfferTable : Type 0 where
   -- a block whose waiting parent was dropped stays
   pub stays : (after start_world (a1 ∷ x3 ∷ y3 ∷ z9 ∷ b2 ∷ [])).waiting ≡ z9 ∷ []
   pub shut : answers_to (record one_branch { closed = true }) (b5 ∷ []) ≡ Closed 3 ∷ []
+  -- a limit of bytes that the waiting block just meets
+  pub bytes : answers_to (record start_world { limits = record { history = 9; wait_blocks = 2; wait_bytes = 1 } }) (a1 ∷ x4 ∷ y5 ∷ []) ≡ Admitted 0 1 [] ∷ Waiting ∷ WaitFull 1 1 ∷ []
+  -- in the order of dropping
+  pub drops_two : answers_to start_world (a1 ∷ x3 ∷ y3 ∷ w3 ∷ b2 ∷ []) ≡ Admitted 0 1 [] ∷ Waiting ∷ Waiting ∷ Waiting ∷ Admitted 1 2 (conflict kind.Finality x3 y3 ∷ conflict kind.Finality x3 w3 ∷ []) ∷ []
+  -- a root brings the plain kind, and the entry of it
+  pub root_kind : (after start_world (a1 ∷ [])).kind ≡ Some (record { version = version.V3; block_type = 45 ∷ [] })
+  -- a child of the root with the number of the root
+  pub beside_root : answers_to start_world (a1 ∷ f1 ∷ []) ≡ Admitted 0 1 [] ∷ Stale ∷ []
+  pub entries : added start_world a1 ≡ entry.Admitted a1 ∷ entry.Kind (record { version = version.V3; block_type = 45 ∷ [] }) ∷ []
 
 -- a block by number and id
 abbrev pub ref : Slip → BlockRef
@@ -225,6 +243,13 @@ pub record LookTable : Type 0 where
   pub idle : looked one_branch (asks None None) (At (at c3 b2)) ≡ NotYet 3
   pub closing : looked (record one_branch { closed = true }) (asks None None) (At (at c3 b2)) ≡ Closing 3
   pub empty : looked start_world (asks None None) Start ≡ NotYet 0
+  pub empty_closed : looked (record start_world { closed = true }) (asks None None) Start ≡ Closing 0
+  pub unknown_end : looked one_branch (asks None (cursor step.New (ref a1) zz (record { num = 8; id = id 121 121 }))) Start ≡ Unknown (id 122 122)
+  -- of two fields that are wrong the first is told
+  pub block_before_end : looked two_branches (asks None (cursor step.New (record { num = 5; id = b4.id }) (record { num = 5; id = b4.id }) (ref a1))) Start ≡ Misfit field.Block
+  pub end_before_lib : looked two_branches (asks None (cursor step.New (ref b4) (record { num = 5; id = b4.id }) (ref c2))) Start ≡ Misfit field.End
+  pub lib_before_step : looked two_branches (asks None (cursor step.New (ref b4) (ref b3) (ref c2))) Start ≡ Misfit field.Lib
+  pub step_before_seen : looked (record two_branches { closed = true }) (asks None (Some (record { step = step.New; block = ref b4; place = at b3 a1; tail = Some (record { run = 700; seen = 6 }) }))) Start ≡ Misfit field.Step
 
 -- orders from scratch, and worlds of chronicles; what comes last is first
 pub record OrderTable : Type 0 where
@@ -232,6 +257,12 @@ pub record OrderTable : Type 0 where
   pub first : linked_order 2 (c3 ∷ b2 ∷ a1 ∷ []) ≡ c3 ∷ b2 ∷ []
   pub alone : linked_order 0 (e5 ∷ x4 ∷ b2 ∷ a1 ∷ []) ≡ e5 ∷ b2 ∷ a1 ∷ []
   pub by_number : linked_order 0 (b2 ∷ b3 ∷ x3 ∷ b4 ∷ a1 ∷ []) ≡ b4 ∷ b3 ∷ x3 ∷ b2 ∷ a1 ∷ []
+  -- the parent by id has another number than p5 names, so p5 has no link time
+  pub numbers : linked_order 0 (p5 ∷ b4 ∷ b3 ∷ b2 ∷ a1 ∷ []) ≡ b4 ∷ b3 ∷ b2 ∷ a1 ∷ []
+  pub repeats : linked_order 0 (once (b2 ∷ b3 ∷ b2 ∷ a1 ∷ [])) ≡ b3 ∷ b2 ∷ a1 ∷ []
   pub branches : linked_order 0 (c2 ∷ b4 ∷ b3 ∷ b2 ∷ a1 ∷ []) ≡ two_branches.history
   -- of two blocks that waited, one was admitted
   pub waits_on : (world_of (entry.Admitted c3_first ∷ entry.Admitted b2 ∷ entry.Waited c3_first ∷ entry.Waited x4 ∷ entry.Admitted a1 ∷ [])).waiting ≡ x4 ∷ []
+  -- each entry is told of once, and the size of the opening is kept
+  pub opened : world_of (entry.Closed ∷ entry.Stored 0 ∷ entry.Admitted a1 ∷ entry.Kind plain_kind ∷ entry.Opened 1 700 narrow 50 ∷ [])
+      ≡ record (empty_world 1 700 narrow) { size = 50; kind = Some plain_kind; history = a1 ∷ []; stored = 0 ∷ []; closed = true }

@@ -45,7 +45,8 @@ pub fn offer_adds()
     ensures { OfferAdds }
 {}
 
-/// A batch at the start begins at a place that fits, and a cursor that it goes on from fits.
+/// A batch at the start begins at a place that fits: the opening of the start, or that of a cursor,
+/// which fits and saw no more of this run than there is.
 pub fn batch_fits()
     ensures { BatchFits }
 {}
