@@ -1,6 +1,6 @@
 //! Slips by place and by id.
 
-ghost use Rattle.std.specs.Prelude.{◌≡◌, ◌+◌, ◌<◌, ◌≤◌, [], ◌∷◌, length, OnOk, OnErr, max, map, Some, false};
+ghost use Rattle.std.specs.Prelude.{◌≡◌, ◌+◌, ◌<◌, ◌≤◌, [], ◌∷◌, length, OnOk, OnErr, IsOk, IsErr, max, map, Some, false};
 ghost use Rattle.std.specs.List.{slice_get};
 ghost use Rattle.std.specs.Option.{option_copied};
 ghost use Rattle.chain_model.specs.Ancestry.{has_id, find_id};
@@ -8,12 +8,13 @@ ghost use Rattle.block_tree.specs.Places.{place_of, slip_at};
 
 use block_record::{Id, Slip};
 use indexmap::{Equivalent, IndexSet};
+use link_rows::PLACES_MAX;
 use std::alloc::{AllocError, Global};
 use std::hash::{Hash, Hasher};
 use std::marker::Model;
 
 /// How many slips there can be at most.
-pub const BLOCKS_MAX: u64 = 134_217_728;
+pub const BLOCKS_MAX: u64 = PLACES_MAX;
 
 /// A slip that is found by its id.
 #[derive(Drop)]
@@ -77,6 +78,7 @@ impl Model for Slips {
     ghost use Rattle.std.specs.Prelude.{◌≤◌, ◌+◌, length};
     ghost use Rattle.indexmap.specs.IndexSet.{spare};
     ghost use Rattle.block_tree.specs.Places.{Blocks, HasIdsOnce, history_of};
+    ghost use Rattle.block_tree.specs.declared.slips.TheConstants.{BLOCKS_MAX};
 
     ghost Value = { Blocks };
 
@@ -84,7 +86,7 @@ impl Model for Slips {
 
     ghost invariant = { λ t. HasIdsOnce (history_of t.slips.keys)
         × (t.room ≤ spare t.slips)
-        × (length t.slips.keys + t.room ≤ 134217728) };
+        × (length t.slips.keys + t.room ≤ BLOCKS_MAX) };
 }
 
 impl Slips {
@@ -102,7 +104,7 @@ impl Slips {
     /// How many slips there are.
     pub fn len(&self) -> usize
         ensures len { result ≡ length self.now.history }
-        ensures small { result + self.now.room ≤ 134217728 }
+        ensures small { result + self.now.room ≤ BLOCKS_MAX }
     {
         self.slips.len()
     }
@@ -139,13 +141,16 @@ impl Slips {
         }
     }
 
-    /// Makes room for that many more slips.
+    /// Makes room for that many more slips. It is refused where they would be more than
+    /// `BLOCKS_MAX`, or for want of memory.
     pub fn reserve(&mut self, more: u64) -> Result<(), AllocError>
         ensures history { self.new.history ≡ self.old.history }
         ensures ok { OnOk result (more ≤ self.new.room) }
         ensures room { self.old.room ≤ self.new.room }
         ensures most { self.new.room ≤ max self.old.room more }
         ensures err { OnErr result (self.new.room ≡ self.old.room) }
+        ensures ready { more ≤ self.old.room → IsOk result }
+        ensures limited { BLOCKS_MAX < length self.old.history + more → IsErr result }
     {
         if more <= u64::from(self.room) {
             return Ok(());

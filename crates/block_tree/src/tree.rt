@@ -1,6 +1,6 @@
 //! The tree of a history: its slips with the paths between them.
 
-ghost use Rattle.std.specs.Prelude.{◌≡◌, ◌+◌, ◌*◌, ◌<◌, ◌≤◌, ◌^◌, [], ◌∷◌, ℕ, length, OnOk, OnErr, Some, find, nat_le, nat_lt, max, IfSome, ◌⊎◌, reverse};
+ghost use Rattle.std.specs.Prelude.{◌≡◌, ◌+◌, ◌*◌, ◌<◌, ◌≤◌, ◌^◌, [], ◌∷◌, ℕ, length, OnOk, OnErr, IsOk, IsErr, Some, find, nat_le, nat_lt, max, IfSome, ◌⊎◌, reverse};
 ghost use Rattle.std.specs.List.{slice_get};
 ghost use Rattle.std.specs.Option.{option_copied};
 ghost use Rattle.block_record.specs.declared.blocks.Slip.{Slip as SlipOf};
@@ -9,7 +9,7 @@ ghost use Rattle.chain_model.specs.Finality.{on_path};
 ghost use Rattle.link_rows.specs.Tree.{ancestors};
 ghost use Rattle.block_tree.specs.Places.{place_of, slip_at, slip_of, parent_places, meeting, IsSkip};
 
-use crate::slips::Slips;
+use crate::slips::{BLOCKS_MAX, Slips};
 use block_record::{Id, Slip};
 use link_rows::{LinkRows, Steps, digits};
 use std::alloc::{AllocError, Global};
@@ -53,7 +53,7 @@ impl BlockTree {
     /// How many blocks there are.
     pub fn len(&self) -> usize
         ensures len { result ≡ length self.now.history }
-        ensures small { result + self.now.room ≤ 134217728 }
+        ensures small { result + self.now.room ≤ BLOCKS_MAX }
         ensures sound { IsHistory self.now.history }
     {
         self.slips.len()
@@ -97,13 +97,16 @@ impl BlockTree {
         self.rows.depth(at)
     }
 
-    /// Makes room for that many more blocks.
+    /// Makes room for that many more blocks. It is refused where they would be more than
+    /// `BLOCKS_MAX`, or for want of memory.
     pub fn reserve(&mut self, more: u64) -> Result<(), AllocError>
         ensures history { self.new.history ≡ self.old.history }
         ensures ok { OnOk result (more ≤ self.new.room) }
         ensures room { self.old.room ≤ self.new.room }
         ensures most { self.new.room ≤ max self.old.room more }
         ensures err { OnErr result (self.new.room ≡ self.old.room) }
+        ensures ready { more ≤ self.old.room → IsOk result }
+        ensures limited { BLOCKS_MAX < length self.old.history + more → IsErr result }
     {
         self.rows.reserve(more)?;
         self.slips.reserve(more)
@@ -117,7 +120,7 @@ impl BlockTree {
         requires parent { place_of self.old.history slip.parent_id ≡ parent }
         ensures history { self.new.history ≡ slip ∷ self.old.history }
         ensures place { result ≡ length self.old.history }
-        ensures small { result < 134217728 }
+        ensures small { result < BLOCKS_MAX }
         ensures room { self.new.room + 1 ≡ self.old.room }
     {
         let at = self.slips.len();

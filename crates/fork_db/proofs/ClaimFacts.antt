@@ -137,6 +137,21 @@ pub claim_kept_at : (newest : List Slip) (cs : List ℕ) (at c : ℕ) (s : Slip)
     → slip_at newest c ≡ claim newest s
 claim_kept_at newest cs at c s h a e ec = claim_marked newest cs at c s h a e (mark_at-reverse cs at ∙ ec)
 
+claim_marked_within : (newest : List Slip) (cs : List ℕ) (at c : ℕ) → AreClaims newest cs → mark_at cs at ≡ Some c → c < length newest
+claim_marked_within [] [] at c a e = absurd (grind arith)
+claim_marked_within [] (d ∷ cs) at c a e = absurd a
+claim_marked_within (t ∷ older) [] at c a e = absurd a
+claim_marked_within (t ∷ older) (d ∷ cs) at c a e =
+    let P : Bool → Type 0 = λ b. cond b (Some d) (mark_at cs at) ≡ Some c → c < length (t ∷ older) in
+    (elim (at == length cs) as P [
+      | true ↦ λ f. subst (λ n. n < length (t ∷ older)) (same_Some d c f) a.1
+      | false ↦ λ f. let lt : c < length older = claim_marked_within older cs at c a.2 f in omega (arith, lt)
+    ]) e
+
+-- a claim is a block of the history
+pub claim_within : (newest : List Slip) (cs : List ℕ) (at c : ℕ) → AreClaims newest cs → slice_get (reverse cs) at ≡ Some c → c < length newest
+claim_within newest cs at c a e = claim_marked_within newest cs at c a (mark_at-reverse cs at ∙ e)
+
 pub claim_item : (items : List ℕ) (at c : ℕ) → at < length items → c ≡ get_or items at c → slice_get (reverse (reverse items)) at ≡ Some c
 claim_item items at c lt e = ap (λ l. slice_get l at) (reverse-reverse items) ∙ slice_get-get_or items at c lt ∙ ap Some (sym e)
 

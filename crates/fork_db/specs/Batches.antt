@@ -1,11 +1,12 @@
 -- A batch: the steps from a place to a target, by their counts.
-use Rattle.std.specs.Prelude.{ℕ, ◌≡◌, ◌+◌, ◌++◌, Bool, true, false, not, List, length, filter, Option, Some}
+use Rattle.std.specs.Prelude.{ℕ, ◌≡◌, ◌+◌, ◌++◌, Bool, true, false, not, List, length, filter, Option, Some, IfSome}
 use Rattle.std.specs.List.{slice_get}
 use Rattle.std.specs.Option.{option_map}
 use Rattle.std.specs.Arc.{arc_value}
 use Rattle.block_record.specs.declared.blocks.Block.{Block}
 use Rattle.block_record.specs.declared.blocks.Slip.{Slip}
 use Rattle.block_record.specs.declared.blocks.BlockRef.{BlockRef}
+use Rattle.block_record.specs.Slips.{slip}
 use Rattle.chain_model.specs.declared.places.Mode.{Mode}
 use Rattle.chain_model.specs.declared.places.Step.{Step}
 use Rattle.chain_model.specs.declared.places.Step.TheVariants as step
@@ -70,3 +71,7 @@ item_seen x = record { step = block_step x.step x.slip; place = x.place }
 -- the item holds what is held of its block
 abbrev pub HoldsWhatIs : List Slip → List (Option Block) → StepItem → Type 0
 HoldsWhatIs newest held x = (at : ℕ) → place_of newest x.slip.id ≡ Some at → slice_get held at ≡ Some (option_map arc_value x.held)
+
+-- a block that the item has is the one of its slip
+abbrev pub HasOwnBlock : StepItem → Type 0
+HasOwnBlock x = IfSome x.held (λ b. x.slip ≡ slip (arc_value b))

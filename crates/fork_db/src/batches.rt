@@ -10,7 +10,7 @@ ghost use Rattle.block_tree.specs.Places.{slip_of};
 ghost use Rattle.fork_db.specs.Batches.{IsBatch, IsGiven, step_total};
 
 use block_record::BlockRef;
-use block_tree::BlockTree;
+use block_tree::{BLOCKS_MAX, BlockTree};
 use chain_model::{Mode, Place};
 use link_rows::Steps;
 use std::alloc::AllocError;
@@ -66,7 +66,7 @@ pub struct Lengths {
 pub(crate) fn path_len(tree: &BlockTree, at: Option<usize>) -> u64
     ensures len { result ≡ length (ancestry_of tree.now.history (slip_of tree.now.history at)) }
     ensures short { result ≤ length tree.now.history }
-    ensures small { length tree.now.history ≤ 134217728 }
+    ensures small { length tree.now.history ≤ BLOCKS_MAX }
     ensures sound { IsHistory tree.now.history }
 {
     let len = tree.len();
@@ -226,7 +226,7 @@ pub fn make_batch<L: Ledger>(
     ensures place { result.place ≡ place }
     ensures given { IsGiven tree.now.history tree.now.history mode stop result }
     ensures most { step_total result ≤ 2 * result.seen }
-    ensures small { result.seen ≤ 134217728 }
+    ensures small { result.seen ≤ BLOCKS_MAX }
     ensures cost { (d : ℕ) → length tree.now.history < 2 ^ d → steps.new ≤ steps.old + 2 + 4 * d }
 {
     let seen = tree.len() as u64;

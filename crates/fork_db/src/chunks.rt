@@ -10,7 +10,8 @@ ghost use Rattle.chain_model.specs.Finality.{ancestry_of};
 ghost use Rattle.chain_model.specs.Steps.{parent_of, ref_of, steps_of};
 ghost use Rattle.chain_model.specs.Places.{place_along, steps_to};
 ghost use Rattle.block_tree.specs.Places.{slip_at, slip_of};
-ghost use Rattle.fork_db.specs.Batches.{HoldsWhatIs, IsGiven, WasGiven, added_kind, item_seen, step_seen, step_total};
+ghost use Rattle.fork_db.specs.Forks.{HoldsOwn};
+ghost use Rattle.fork_db.specs.Batches.{HasOwnBlock, HoldsWhatIs, IsGiven, WasGiven, added_kind, item_seen, step_seen, step_total};
 
 use crate::batches::{Batch, step_count};
 use crate::held::HeldBlocks;
@@ -275,7 +276,7 @@ fn item_at(
     index: u64,
 ) -> Result<StepItem, AllocError>
     requires sound { IsHistory tree.now.history }
-    requires held { length held.now.blocks ≡ length tree.now.history }
+    requires own { HoldsOwn tree.now.history held.now.blocks }
     requires given { WasGiven tree.now.history batch.now }
     requires range { index < step_total batch.now }
     requires small { index + 1 < 2 ^ 64 }
@@ -284,6 +285,7 @@ fn item_at(
         → IfOk result (λ x. slice_get (steps_to older batch.now.place mode stop) index
         ≡ Some (item_seen x)) }
     ensures holds { IfOk result (HoldsWhatIs tree.now.history held.now.blocks) }
+    ensures own { IfOk result HasOwnBlock }
 {
     let found = step_in(tree, batch, index);
     let slip = copy_slip(tree.slip(found.at))?;
@@ -307,7 +309,7 @@ fn push_range(
     out: &mut Vec<StepItem>,
 ) -> Result<(), AllocError>
     requires sound { IsHistory tree.now.history }
-    requires held { length held.now.blocks ≡ length tree.now.history }
+    requires own { HoldsOwn tree.now.history held.now.blocks }
     requires given { WasGiven tree.now.history batch.now }
     requires range { end ≤ step_total batch.now }
     ensures ok { (older : List SlipOf) (mode : ModeOf) (stop : Option ℕ)
@@ -316,6 +318,7 @@ fn push_range(
         ++ take (end - from) (drop from (steps_to older batch.now.place mode stop))) }
     ensures holds { AllByRecursion (HoldsWhatIs tree.now.history held.now.blocks)
         (drop (length out.old.items) out.new.items) }
+    ensures own { AllByRecursion HasOwnBlock (drop (length out.old.items) out.new.items) }
     ensures kept { take (length out.old.items) out.new.items ≡ out.old.items }
 {
     for index in from..end {
@@ -335,13 +338,15 @@ pub fn push_items(
     max: u32,
     out: &mut Vec<StepItem>,
 ) -> Result<(), AllocError>
-    requires held { length held.now.blocks ≡ length tree.now.history }
+    requires own { HoldsOwn tree.now.history held.now.blocks }
     requires given { WasGiven tree.now.history batch.now }
     ensures ok { (older : List SlipOf) (mode : ModeOf) (stop : Option ℕ)
         → IsGiven tree.now.history older mode stop batch.now
         → OnOk result (map item_seen out.new.items ≡ map item_seen out.old.items
         ++ take max (drop from (steps_to older batch.now.place mode stop))) }
     ensures holds { OnOk result (AllByRecursion (HoldsWhatIs tree.now.history held.now.blocks)
+        (drop (length out.old.items) out.new.items)) }
+    ensures own { OnOk result (AllByRecursion HasOwnBlock
         (drop (length out.old.items) out.new.items)) }
     ensures err { OnErr result (out.new.items ≡ out.old.items) }
 {

@@ -11,7 +11,7 @@ ghost use Rattle.chain_model.specs.declared.places.Mode.{Mode as ModeOf};
 ghost use Rattle.chain_model.specs.Places.{IsAhead, PlaceFits, opening as opening_in, place_along, place_to, steps_to};
 ghost use Rattle.chain_model.specs.Steps.{head as head_in, steps_of};
 ghost use Rattle.block_tree.specs.Places.{place_of, slip_at, slip_of, meeting};
-ghost use Rattle.fork_db.specs.Batches.{HoldsWhatIs, IsBatch, IsGiven, WasGiven, item_seen, step_seen};
+ghost use Rattle.fork_db.specs.Batches.{HasOwnBlock, HoldsWhatIs, IsBatch, IsGiven, WasGiven, item_seen, step_seen};
 ghost use Rattle.fork_db.specs.Claims.{claim_at};
 ghost use Rattle.fork_db.specs.Forks.{IsAppended};
 ghost use Rattle.fork_db.specs.Verdicts.{verdict_of, fits, parent_verdict};
@@ -192,8 +192,9 @@ impl ForkDb {
     /// What the block at a place claims to be final.
     pub fn claim(&self, at: usize) -> usize
         requires { at < length self.now.history }
-        ensures { (s : SlipOf) → slip_at self.now.history at ≡ Some s
+        ensures value { (s : SlipOf) → slip_at self.now.history at ≡ Some s
             → slip_at self.now.history result ≡ claim_in self.now.history s }
+        ensures range { result < length self.now.history }
     {
         self.claims[at] as usize
     }
@@ -211,9 +212,10 @@ impl ForkDb {
     /// The block at the index `depth` of the path of a block, where the path is that long.
     pub fn ancestor_at(&self, b: usize, depth: u64) -> Option<usize>
         requires { b < length self.now.history }
-        ensures { (y : SlipOf) → slip_at self.now.history b ≡ Some y
+        ensures value { (y : SlipOf) → slip_at self.now.history b ≡ Some y
             → slip_of self.now.history result
             ≡ slice_get (reverse (ancestry self.now.history y.id)) depth }
+        ensures range { IfSome result (λ at. at < length self.now.history) }
     {
         ancestor_at(&self.tree, b, depth)
     }
@@ -222,9 +224,10 @@ impl ForkDb {
     pub fn fork_point(&self, a: usize, b: usize) -> usize
         requires a_range { a < length self.now.history }
         requires b_range { b < length self.now.history }
-        ensures { (x y : SlipOf) → slip_at self.now.history a ≡ Some x
+        ensures value { (x y : SlipOf) → slip_at self.now.history a ≡ Some x
             → slip_at self.now.history b ≡ Some y → slip_at self.now.history result
             ≡ meeting (ancestry self.now.history x.id) (ancestry self.now.history y.id) }
+        ensures range { result < length self.now.history }
     {
         fork_by::<Brand>(&self.tree, a, b, Blank::new(1))
     }
@@ -334,6 +337,8 @@ impl ForkDb {
             ++ take max (drop from (steps_to older batch.now.place mode stop))) }
         ensures holds { OnOk result (AllByRecursion (HoldsWhatIs self.now.history self.now.held)
             (drop (length out.old.items) out.new.items)) }
+        ensures own { OnOk result (AllByRecursion HasOwnBlock
+            (drop (length out.old.items) out.new.items)) }
         ensures err { OnErr result (out.new.items ≡ out.old.items) }
     {
         push_items(&self.tree, &self.held, batch, from, max, out)
@@ -413,6 +418,7 @@ impl ForkDb {
         ensures limit { self.new.limit ≡ self.old.limit }
         ensures ok { OnOk result (more ≤ self.new.room) }
         ensures room { self.old.room ≤ self.new.room }
+        ensures err { OnErr result (self.new.room ≡ self.old.room) }
         // `Full` comes exactly where more blocks would pass the limit.
         ensures full { (n : ℕ) → result ≡ Err (ForkFault.Full n)
             → (n ≡ length self.old.history) × (self.old.limit < n + more) }
@@ -447,7 +453,8 @@ impl ForkDb {
             (option_map (λ b. b.value) block)) }
         ensures room { OnOk result (self.old.room ≤ self.new.room + 1) }
         ensures kept { OnErr result ((self.new.history ≡ self.old.history)
-            × (self.new.held ≡ self.old.held) × (self.new.limit ≡ self.old.limit)) }
+            × (self.new.held ≡ self.old.held) × (self.new.limit ≡ self.old.limit)
+            × (self.new.room ≡ self.old.room)) }
         ensures succeeds { 0 < self.old.room → IsOk result }
         // `Full` comes exactly where the limit is reached.
         ensures full { (n : ℕ) → result ≡ Err (ForkFault.Full n)
@@ -552,9 +559,10 @@ fn fork_by<L: Ledger>(tree: &BlockTree, a: usize, b: usize, blank: Blank) -> usi
     requires name { blank.name ≡ L.name }
     requires parts { blank.parts ≡ L.parts }
     requires more { 0 < L.parts }
-    ensures { (x y : SlipOf) → slip_at tree.now.history a ≡ Some x
+    ensures value { (x y : SlipOf) → slip_at tree.now.history a ≡ Some x
         → slip_at tree.now.history b ≡ Some y → slip_at tree.now.history result
         ≡ meeting (ancestry tree.now.history x.id) (ancestry tree.now.history y.id) }
+    ensures range { result < length tree.now.history }
 {
     let mut steps = Steps::<L>::new(blank);
     tree.meet(a, b, &mut steps)

@@ -6,5 +6,5 @@ mod steps;
 #[cfg(test)]
 mod tests;
 
-pub use rows::{LinkRows, digits};
+pub use rows::{LinkRows, PLACES_MAX, digits};
 pub use steps::Steps;

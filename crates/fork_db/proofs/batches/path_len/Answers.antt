@@ -4,7 +4,7 @@ use Rattle.fork_db.proofs.batches.path_len.Goals as goal
 
 pub overflow_add-result : goal.overflow_add-result
 overflow_add-result c =
-    let few = path_short _ _ _ 134217728 (omega (arith, c.len-len.ensures.len)) c.depth.ensures (omega (arith, c.len-len.ensures.len, c.len-len.ensures.small)) in
+    let few = path_short _ _ _ 134217727 (omega (arith, c.len-len.ensures.len)) c.depth.ensures (omega (arith, c.len-len.ensures.len, c.len-len.ensures.small)) in
     omega (arith, few)
 
 pub returns-in-Some-clause-len : goal.returns-in-Some-clause-len

@@ -1,7 +1,8 @@
 use Rattle.std.proofs.Common.{◌+◌, ◌<◌, refl, sym, subst}
+use Rattle.std.specs.Arc.{arc_value}
 use Rattle.chain_model.specs.Steps.{steps_of}
 use Rattle.fork_db.proofs.PlaceFacts.{item_placed}
-use Rattle.fork_db.proofs.HoldFacts.{holds_own}
+use Rattle.fork_db.proofs.HoldFacts.{held_is_own, holds_own}
 use Rattle.fork_db.proofs.chunks.item_at.Goals as goal
 
 pub returns-clause-step : goal.returns-clause-step
@@ -10,9 +11,12 @@ returns-clause-step c = λ older m stop given.
     c.in_ok-slip.slip c.slip.result.now (c.step_in-found.ensures.value older m stop given) c.slip.ensures c.in_ok-slip.ensures refl (c.in_ok-place.ensures older m stop given)
 
 pub share-requires : goal.share-requires
-share-requires c = subst (λ n. c.step_in-found.result.at < n) (sym c.requires.held) c.step_in-found.ensures.range
+share-requires c = subst (λ n. c.step_in-found.result.at < n) (sym c.requires.own.len) c.step_in-found.ensures.range
 
 pub returns-clause-holds : goal.returns-clause-holds
 returns-clause-holds c =
     holds_own c.args.tree.now.history c.args.held.now.blocks c.step_in-found.result.at c.slip.result.now
     (record { step = c.step_in-found.result.step; slip = c.in_ok-slip.slip; held = c.in_ok-shared.shared; place = c.in_ok-place.place }) _ c.requires.sound c.slip.ensures c.in_ok-slip.ensures c.in_ok-shared.ensures refl
+
+pub returns-clause-own : goal.returns-clause-own
+returns-clause-own c = held_is_own arc_value c.args.tree.now.history c.args.held.now.blocks c.step_in-found.result.at c.slip.result.now _ c.in_ok-shared.shared c.requires.own c.slip.ensures c.in_ok-slip.ensures c.in_ok-shared.ensures

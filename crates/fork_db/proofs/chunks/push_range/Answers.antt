@@ -2,9 +2,9 @@ use Rattle.std.proofs.Common.{arith, ap, ◌∙◌, ◌∷◌, [], ◌+◌, ◌-
 use Rattle.std.proofs.lemmas.List.{length-append}
 use Rattle.std.proofs.Math.Seq.{take-length}
 use Rattle.chain_model.specs.Places.{steps_to}
-use Rattle.fork_db.specs.Batches.{item_seen}
+use Rattle.fork_db.specs.Batches.{HasOwnBlock, item_seen}
 use Rattle.fork_db.proofs.PlaceFacts.{first_kept, item_pushed}
-use Rattle.fork_db.proofs.HoldFacts.{holds_more, none_yet, none_told}
+use Rattle.fork_db.proofs.HoldFacts.{all_more, none_yet, none_told}
 use Rattle.fork_db.proofs.chunks.push_range.Goals as goal
 
 pub loop-index-preserved : goal.loop-index-preserved
@@ -15,7 +15,8 @@ loop-index-preserved c = record {
   kept = first_kept _ _ _ _ c.loop-index.invariant.kept c.loop-index.invariant.more c.in_ok-push.ensures.items;
   within = omega (arith, c.loop-index-test.true);
   more = omega (arith, ap length c.in_ok-push.ensures.items, length-append c.loop-index.out.items (c.in_ok-item.item ∷ []), c.loop-index.invariant.more);
-  holds = holds_more _ _ (length c.args.out.now.items) c.loop-index.out.items _ c.in_ok-item.item c.loop-index.invariant.more c.in_ok-push.ensures.items c.in_ok-item.ensures.holds c.loop-index.invariant.holds;
+  holds = all_more _ (length c.args.out.now.items) c.loop-index.out.items _ c.in_ok-item.item c.loop-index.invariant.more c.in_ok-push.ensures.items c.in_ok-item.ensures.holds c.loop-index.invariant.holds;
+  own = all_more HasOwnBlock (length c.args.out.now.items) c.loop-index.out.items _ c.in_ok-item.item c.loop-index.invariant.more c.in_ok-push.ensures.items c.in_ok-item.ensures.own c.loop-index.invariant.own;
 }
 
 pub returns-clause-ok : goal.returns-clause-ok
@@ -31,4 +32,5 @@ loop-index-init c = record {
   within = omega arith;
   more = omega arith;
   holds = none_yet _ c.args.out.now.items;
+  own = none_yet HasOwnBlock c.args.out.now.items;
 }

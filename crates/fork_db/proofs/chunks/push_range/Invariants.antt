@@ -3,7 +3,7 @@ use Rattle.std.specs.List.{AllByRecursion}
 use Rattle.block_record.specs.declared.blocks.Slip.{Slip}
 use Rattle.chain_model.specs.declared.places.Mode.{Mode}
 use Rattle.chain_model.specs.Places.{steps_to}
-use Rattle.fork_db.specs.Batches.{HoldsWhatIs, IsGiven, item_seen}
+use Rattle.fork_db.specs.Batches.{HasOwnBlock, HoldsWhatIs, IsGiven, item_seen}
 use Rattle.fork_db.proofs.chunks.push_range.Given as goal
 
 abbrev pub invariant-loop-index : goal.invariant-loop-index
@@ -14,4 +14,5 @@ invariant-loop-index l = record {
   within : l.index ≤ max l.from l.end;
   more : length l.fn.out.items ≤ length l.out.items;
   holds : AllByRecursion (HoldsWhatIs l.tree.history l.held.blocks) (drop (length l.fn.out.items) l.out.items);
+  own : AllByRecursion HasOwnBlock (drop (length l.fn.out.items) l.out.items);
 }
