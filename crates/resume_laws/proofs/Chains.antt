@@ -60,7 +60,7 @@ has_id-reverse (x ∷ xs) j =
 trace_kept : (newest : List Slip) (base : Option BlockRef) (told : List Slip) (place : Place) (lines : List Line) → Trace newest base place lines
     → told ≡ reverse (after_base base (ancestry_at newest place.lib)) → KeepsFinals told lines
 trace_kept newest base told place [] t e = tt
-trace_kept newest base told place (StepLine x ∷ lines) t e =
+trace_kept newest base told place (StepLine len x ∷ lines) t e =
     let low = after_base base (ancestry_at newest place.lib) in
     let apart = all_weaker (λ s. has_id low s.id ≡ false) (λ s. has_id told s.id ≡ false) (λ s h. ap (λ l. has_id l s.id) e ∙ has_id-reverse low s.id ∙ h) _ t.0.apart in
     let more : told ++ mark x.step ≡ reverse (after_base base (ancestry_at newest x.place.lib)) =

@@ -4,4 +4,5 @@ mod Chains
 mod Batches
 mod Dones
 mod Counts
+mod Lengths
 mod SmallSessions

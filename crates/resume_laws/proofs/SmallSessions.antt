@@ -1,5 +1,6 @@
 -- Small chains of sessions, worked out, and one that meets the premises of resumption.
-use Rattle.std.proofs.Common.{arith, ◌≡◌, ℕ, true, List, [], ◌∷◌, Some, None, refl, sym, ◌∙◌, ap, subst}
+use Rattle.std.proofs.Common.{arith, ◌≡◌, ◌≤◌, ◌+◌, ℕ, map, true, List, [], ◌∷◌, Some, None, refl, sym, ◌∙◌, ap, subst}
+use Rattle.std.proofs.lemmas.Bool.{both_ways}
 use Rattle.std.proofs.lemmas.Option.{same_Some}
 use Rattle.block_record.specs.declared.blocks.Slip.{Slip}
 use Rattle.block_record.specs.Ids.{same_id}
@@ -12,13 +13,17 @@ use Rattle.chain_model.specs.Fold.{fold_steps}
 use Rattle.chain_model.proofs.StandardFacts.{block, at, told, a1, b2, c2, c3, d3, final_c2, chain, tie, fork, tie_is}
 use Rattle.chain_laws.specs.Standing.{stands, has_all, begins, place_at_end}
 use Rattle.chain_laws.specs.Oldest.{oldest}
-use Rattle.resume_laws.specs.Sessions.{StepLine, HeadLine, Session, CursorFits, told_final}
+use Rattle.resume_laws.specs.Sessions.{StepLine, HeadLine, Session, CursorFits, Rises, AreOnward, AreCut, KeepsFinals, line_len, step_lens, seen_of, received, chain_lines, told_final}
 use Rattle.resume_laws.specs.Laws.{lines_of, IsChainFrom}
 use Rattle.chain_laws.proofs.public.Tips.{claims_go_on_to_agree}
 
 -- no number is one and two
 one_or_two : (n : ℕ) → n ≡ 1 → n ≡ 2 → ⊥
 one_or_two n e f = omega arith
+
+-- and none is at most the one before
+not_below : (n m : ℕ) → m ≡ n + 1 → m ≤ n → ⊥
+not_below n m e le = omega (arith, e, le)
 
 -- nor zero and one
 zero_or_one : (n : ℕ) → n ≡ 0 → n ≡ 1 → ⊥
@@ -37,8 +42,8 @@ abbrev second_session : Session
 second_session = record { mode = mode.Live; stop = None; lens = 4 ∷ []; cut = 9 }
 
 two_sessions : lines_of tie 0 first_session (second_session ∷ [])
-    ≡ StepLine (told step.NewFinal a1 (at a1 a1)) ∷ StepLine (told step.New b2 (at b2 a1)) ∷ HeadLine mode.Live None 2 ∷ StepLine (told step.Undo b2 (at a1 a1))
-    ∷ StepLine (told step.New c2 (at c2 a1)) ∷ StepLine (told step.New d3 (at d3 a1)) ∷ HeadLine mode.Live None 4 ∷ []
+    ≡ StepLine 2 (told step.NewFinal a1 (at a1 a1)) ∷ StepLine 2 (told step.New b2 (at b2 a1)) ∷ HeadLine mode.Live None 2 ∷ StepLine 4 (told step.Undo b2 (at a1 a1))
+    ∷ StepLine 4 (told step.New c2 (at c2 a1)) ∷ StepLine 4 (told step.New d3 (at d3 a1)) ∷ HeadLine mode.Live None 4 ∷ []
 unfolding same_id
 two_sessions = refl
 
@@ -130,6 +135,25 @@ told_once : told_final (lines_of chain 0 (record { mode = mode.Live; stop = None
 unfolding same_id
 told_once = refl
 
+-- a block that was told as final, at once or later, is not taken back
+newfinal_kept : KeepsFinals [] (StepLine 1 (told step.NewFinal a1 (at a1 a1)) ∷ StepLine 1 (told step.Undo a1 (at a1 a1)) ∷ []) → ⊥
+unfolding same_id
+newfinal_kept h = both_ways _ h.1.0.0 refl
+
+final_kept : KeepsFinals [] (StepLine 2 (told step.New b2 (at b2 a1)) ∷ StepLine 3 (told step.Final b2 (at b2 b2)) ∷ HeadLine mode.Live None 3 ∷ StepLine 4 (told step.Undo b2 (at a1 b2)) ∷ []) → ⊥
+unfolding same_id
+final_kept h = both_ways _ h.1.1.0.0 refl
+
+-- nor is one that was final before the first line
+before_kept : KeepsFinals (a1 ∷ []) (StepLine 2 (told step.Undo a1 (at a1 a1)) ∷ []) → ⊥
+unfolding same_id
+before_kept h = both_ways _ h.0.0 refl
+
+-- any other block may be
+others_kept : KeepsFinals [] (StepLine 2 (told step.NewFinal a1 (at a1 a1)) ∷ StepLine 2 (told step.New b2 (at b2 a1)) ∷ StepLine 4 (told step.Undo b2 (at a1 a1)) ∷ [])
+unfolding same_id
+others_kept = (tt, (tt, ((refl, tt), tt)))
+
 -- the final blocks of a batch's target are those that were final then
 then_final : has_all (oldest 2 chain) None (target (oldest 2 chain) mode.Live None) ≡ record { base = None; blocks = ref_of b2 ∷ ref_of a1 ∷ []; finals = 1 }
 unfolding same_id
@@ -180,3 +204,80 @@ fork_tip = refl
 fork_end : place_to fork no_place mode.Live None ≡ at final_c2 final_c2
 unfolding same_id
 fork_end = refl
+
+-- The lengths: two sessions that never go back, the first cut after the line of a step.
+
+two_lens : map line_len (lines_of tie 0 first_session (second_session ∷ [])) ≡ 2 ∷ 2 ∷ 2 ∷ 4 ∷ 4 ∷ 4 ∷ 4 ∷ []
+unfolding same_id
+two_lens = refl
+
+-- those of the steps
+two_step_lens : step_lens (lines_of tie 0 first_session (second_session ∷ [])) ≡ 2 ∷ 2 ∷ 4 ∷ 4 ∷ 4 ∷ []
+unfolding same_id
+two_step_lens = refl
+
+-- the cursor of the undo has seen four blocks
+two_seen : seen_of 0 (received tie no_place first_session) ≡ 4
+unfolding same_id
+two_seen = refl
+
+-- the premises can be met
+onward_met : AreOnward tie no_place 0 (first_session ∷ second_session ∷ [])
+unfolding same_id
+onward_met = (omega arith, (omega arith, tt), (omega arith, tt, tt))
+
+cut_met : AreCut tie no_place (first_session ∷ second_session ∷ [])
+unfolding same_id
+cut_met = (refl, tt)
+
+-- a session of so many lines over these lengths
+abbrev over : List ℕ → ℕ → Session
+over lens cut = record { mode = mode.Live; stop = None; lens = lens; cut = cut }
+
+-- A session that received a head line alone, and then the cursor before it again: nothing that a cursor has tells of the head line.
+
+abbrev head_alone : List Session
+head_alone = over (2 ∷ []) 2 ∷ over (3 ∷ []) 1 ∷ over (2 ∷ []) 1 ∷ []
+
+head_alone_onward : AreOnward tie no_place 0 head_alone
+unfolding same_id
+head_alone_onward = (omega arith, tt, (omega arith, tt, (omega arith, tt, tt)))
+
+head_alone_lines : chain_lines tie no_place head_alone ≡ StepLine 2 (told step.NewFinal a1 (at a1 a1)) ∷ StepLine 2 (told step.New b2 (at b2 a1)) ∷ HeadLine mode.Live None 3 ∷ HeadLine mode.Live None 2 ∷ []
+unfolding same_id
+head_alone_lines = refl
+
+head_alone_falls : Rises (0 ∷ map line_len (chain_lines tie no_place head_alone)) → ⊥
+unfolding same_id
+head_alone_falls h = not_below 2 3 refl h.1.1.1.0
+
+-- that session is cut after no step
+head_alone_uncut : AreCut tie no_place head_alone → ⊥
+unfolding same_id
+head_alone_uncut h = both_ways _ refl h.1.0
+
+-- So it is with a head line after the last step, where the next session begins at what that step has seen.
+
+abbrev head_after : List Session
+head_after = over (2 ∷ 3 ∷ []) 4 ∷ over (2 ∷ []) 1 ∷ []
+
+head_after_onward : AreOnward tie no_place 0 head_after
+unfolding same_id
+head_after_onward = (omega arith, (omega arith, tt), (omega arith, tt, tt))
+
+head_after_lens : map line_len (chain_lines tie no_place head_after) ≡ 2 ∷ 2 ∷ 2 ∷ 3 ∷ 2 ∷ []
+unfolding same_id
+head_after_lens = refl
+
+head_after_uncut : AreCut tie no_place head_after → ⊥
+unfolding same_id
+head_after_uncut h = both_ways _ refl h.0
+
+-- a session that begins before what its cursor has seen
+begins_before : AreOnward tie no_place 0 (over (2 ∷ 4 ∷ []) 4 ∷ over (3 ∷ []) 1 ∷ []) → ⊥
+unfolding same_id
+begins_before h = not_below 3 4 refl h.2.0
+
+-- and one that goes on to a shorter history
+goes_back : AreOnward tie no_place 0 (over (3 ∷ 2 ∷ []) 9 ∷ []) → ⊥
+goes_back h = not_below 2 3 refl h.1.0

@@ -33,18 +33,18 @@ pub record Goes (newest : List Slip) (base : Option BlockRef) (place : Place) (x
 -- what holds of lines received from a place on
 abbrev pub Trace : List Slip → Option BlockRef → Place → List Line → Type 0
 Trace newest base place [] = Unit {0}
-Trace newest base place (StepLine x ∷ lines) = Goes newest base place x × Trace newest base x.place lines
+Trace newest base place (StepLine len x ∷ lines) = Goes newest base place x × Trace newest base x.place lines
 Trace newest base place (HeadLine mode stop len ∷ lines) = (stands newest base place ≡ has_all (oldest len newest) base (target (oldest len newest) mode stop)) × Trace newest base place lines
 
 pub trace_take : (newest : List Slip) (base : Option BlockRef) (k : ℕ) (place : Place) (lines : List Line) → Trace newest base place lines → Trace newest base place (take k lines)
 trace_take newest base zero place lines t = tt
 trace_take newest base (suc k) place [] t = tt
-trace_take newest base (suc k) place (StepLine x ∷ lines) t = (t.0, trace_take newest base k x.place lines t.1)
+trace_take newest base (suc k) place (StepLine len x ∷ lines) t = (t.0, trace_take newest base k x.place lines t.1)
 trace_take newest base (suc k) place (HeadLine mode stop len ∷ lines) t = (t.0, trace_take newest base k place lines t.1)
 
 pub trace_append : (newest : List Slip) (base : Option BlockRef) (place : Place) (xs ys : List Line) → Trace newest base place xs → Trace newest base (place_of place xs) ys → Trace newest base place (xs ++ ys)
 trace_append newest base place [] ys t u = u
-trace_append newest base place (StepLine x ∷ xs) ys t u = (t.0, trace_append newest base x.place xs ys t.1 u)
+trace_append newest base place (StepLine len x ∷ xs) ys t u = (t.0, trace_append newest base x.place xs ys t.1 u)
 trace_append newest base place (HeadLine mode stop len ∷ xs) ys t u = (t.0, trace_append newest base place xs ys t.1 u)
 
 -- a place where a client stands
@@ -54,19 +54,19 @@ pub record Stood (newest : List Slip) (base : Option BlockRef) (place : Place) :
 
 pub stood_after : (newest : List Slip) (base : Option BlockRef) (place : Place) (lines : List Line) → Stood newest base place → Trace newest base place lines → Stood newest base (place_of place lines)
 stood_after newest base place [] s t = s
-stood_after newest base place (StepLine x ∷ lines) s t = stood_after newest base x.place lines (record { fits = t.0.fits; under = t.0.under }) t.1
+stood_after newest base place (StepLine len x ∷ lines) s t = stood_after newest base x.place lines (record { fits = t.0.fits; under = t.0.under }) t.1
 stood_after newest base place (HeadLine mode stop len ∷ lines) s t = stood_after newest base place lines s t.1
 
 -- what a trace tells
 pub trace_follow : (newest : List Slip) (base : Option BlockRef) (place : Place) (lines : List Line) → Trace newest base place lines → Follow newest (stands newest base place) lines
 trace_follow newest base place [] t = tt
-trace_follow newest base place (StepLine x ∷ lines) t = (t.0.fold, trace_follow newest base x.place lines t.1)
+trace_follow newest base place (StepLine len x ∷ lines) t = (t.0.fold, trace_follow newest base x.place lines t.1)
 trace_follow newest base place (HeadLine mode stop len ∷ lines) t = (t.0, trace_follow newest base place lines t.1)
 
 pub trace_fold : (newest : List Slip) (base : Option BlockRef) (place : Place) (lines : List Line) → Trace newest base place lines
     → fold_steps (stands newest base place) (only_steps lines) ≡ Some (stands newest base (place_of place lines))
 trace_fold newest base place [] t = refl
-trace_fold newest base place (StepLine x ∷ lines) t = rw t.0.fold (trace_fold newest base x.place lines t.1)
+trace_fold newest base place (StepLine len x ∷ lines) t = rw t.0.fold (trace_fold newest base x.place lines t.1)
 trace_fold newest base place (HeadLine mode stop len ∷ lines) t = trace_fold newest base place lines t.1
 
 pub mark_turned : (x : BlockStep) → reverse (mark x) ≡ mark x
@@ -81,7 +81,7 @@ mark_turned x = of x.step x.slip
 pub trace_told : (newest : List Slip) (base : Option BlockRef) (place : Place) (lines : List Line) → Trace newest base place lines
     → after_base base (ancestry_at newest (place_of place lines).lib) ≡ reverse (told_final lines) ++ after_base base (ancestry_at newest place.lib)
 trace_told newest base place [] t = refl
-trace_told newest base place (StepLine x ∷ lines) t =
+trace_told newest base place (StepLine len x ∷ lines) t =
     let low = after_base base (ancestry_at newest place.lib) in
     let told = reverse (told_final lines) in
     let turned : reverse (mark x.step ++ told_final lines) ≡ told ++ mark x.step = reverse-append (mark x.step) (told_final lines) ∙ ap (λ l. told ++ l) (mark_turned x.step) in
@@ -89,10 +89,10 @@ trace_told newest base place (StepLine x ∷ lines) t =
 trace_told newest base place (HeadLine mode stop len ∷ lines) t = trace_told newest base place lines t.1
 
 -- one batch
-pub trace_steps : (more older goal : List Slip) (base : Option BlockRef) (xs : List BlockStep) (place : Place) (lines : List Line) → IsHistory (more ++ older) → ClaimsAgree (more ++ older)
-    → Walk older goal base place xs → Trace (more ++ older) base (place_along place xs) lines → Trace (more ++ older) base place (step_lines (placed place xs) ++ lines)
-trace_steps more older goal base [] place lines history agreed w t = t
-trace_steps more older goal base (x ∷ xs) place lines history agreed w t =
+pub trace_steps : (len : ℕ) (more older goal : List Slip) (base : Option BlockRef) (xs : List BlockStep) (place : Place) (lines : List Line) → IsHistory (more ++ older) → ClaimsAgree (more ++ older)
+    → Walk older goal base place xs → Trace (more ++ older) base (place_along place xs) lines → Trace (more ++ older) base place (step_lines len (placed place xs) ++ lines)
+trace_steps len more older goal base [] place lines history agreed w t = t
+trace_steps len more older goal base (x ∷ xs) place lines history agreed w t =
     let before = history_older more older history in
     let n = next older goal base place x xs before w in
     let after = place_after place x in
@@ -109,7 +109,7 @@ trace_steps more older goal base (x ∷ xs) place lines history agreed w t =
       fits = fits_later more older history agreed after.end after.lib fits';
       under = under_later more older history base after fits' (walk_under older goal base after xs before n.walk);
     } in
-    (goes, trace_steps more older goal base xs after lines history agreed n.walk t)
+    (goes, trace_steps len more older goal base xs after lines history agreed n.walk t)
 
 -- a batch at a shorter history
 record Batch (newest older : List Slip) (base : Option BlockRef) (place : Place) (m : Mode) (stop : Option ℕ) : Type 0 where
@@ -117,7 +117,7 @@ record Batch (newest older : List Slip) (base : Option BlockRef) (place : Place)
   ahead : IsAhead stop (place_to older place m stop).end
   pub under : IsUnder newest base (place_to older place m stop).lib
   has : stands newest base (place_to older place m stop) ≡ has_all older base (target older m stop)
-  trace : (lines : List Line) → Trace newest base (place_to older place m stop) lines → Trace newest base place (step_lines (steps_to older place m stop) ++ lines)
+  trace : (len : ℕ) (lines : List Line) → Trace newest base (place_to older place m stop) lines → Trace newest base place (step_lines len (steps_to older place m stop) ++ lines)
 
 batch_go : (more older : List Slip) (base : Option BlockRef) (place : Place) (m : Mode) (stop : Option ℕ) → IsHistory (more ++ older) → ClaimsAgree (more ++ older)
     → PlaceFits older place.end place.lib → IsUnder (more ++ older) base place.lib → IsAhead stop place.end → Batch (more ++ older) older base place m stop
@@ -133,7 +133,7 @@ batch_go more older base place m stop history agreed fits under ahead =
       ahead = settled.ahead;
       under = under_later more older history base after settled.fits (walk_under older goal base after [] before done);
       has = stands_later more older history base after settled.fits ∙ (walk_end older goal base after before done).has;
-      trace = λ lines t. trace_steps more older goal base (steps_of older place m stop) place lines history agreed w t;
+      trace = λ len lines t. trace_steps len more older goal base (steps_of older place m stop) place lines history agreed w t;
     }
 
 batch_of : (newest : List Slip) (base : Option BlockRef) (place : Place) (m : Mode) (stop : Option ℕ) (len : ℕ) → IsHistory newest → ClaimsAgree newest
@@ -166,11 +166,11 @@ pub trace_batches : (newest : List Slip) (base : Option BlockRef) (m : Mode) (st
 trace_batches newest base m stop [] place history agreed fits rises within under ahead = tt
 trace_batches newest base m stop (len ∷ []) place history agreed fits rises within under ahead =
     let b = batch_of newest base place m stop len history agreed fits under ahead in
-    b.trace _ (b.has, tt)
+    b.trace len _ (b.has, tt)
 trace_batches newest base m stop (len ∷ len' ∷ lens) place history agreed fits rises within under ahead =
     let b = batch_of newest base place m stop len history agreed fits under ahead in
     let after = place_to (oldest len newest) place m stop in
-    b.trace _ (b.has, trace_batches newest base m stop (len' ∷ lens) after history agreed (fits_at_more newest len len' history agreed rises.0 within.1.0 after b.fits) rises.1 within.1 b.under b.ahead)
+    b.trace len _ (b.has, trace_batches newest base m stop (len' ∷ lens) after history agreed (fits_at_more newest len len' history agreed rises.0 within.1.0 after b.fits) rises.1 within.1 b.under b.ahead)
 
 pub trace_received : (newest : List Slip) (base : Option BlockRef) (place : Place) (s : Session) → IsHistory newest → ClaimsAgree newest → FitsFirst newest place s.lens → IsSession newest place s → Stood newest base place
     → Trace newest base place (received newest place s)

@@ -1,5 +1,5 @@
 -- The laws of sessions that follow each other by cursors, as statements.
-use Rattle.std.specs.Prelude.{ℕ, ◌≡◌, ◌≤◌, take, length, List, [], ◌∷◌, ◌++◌, reverse, Option, Some}
+use Rattle.std.specs.Prelude.{ℕ, ◌≡◌, ◌≤◌, take, length, List, [], ◌∷◌, ◌++◌, map, reverse, Option, Some}
 use Rattle.std.specs.List.{AllByRecursion}
 use mathlib.Core.List.{IsPrefix}
 use Rattle.block_record.specs.declared.blocks.Slip.{Slip}
@@ -13,7 +13,7 @@ use Rattle.chain_model.specs.Places.{PlaceFits, IsAhead, opening, steps_to}
 use Rattle.chain_model.specs.Fold.{FoldState, after_step, fold_steps}
 use Rattle.chain_laws.specs.Oldest.{oldest}
 use Rattle.chain_laws.specs.Standing.{after_base, stands, begins, IsUnder}
-use Rattle.resume_laws.specs.Sessions.{CursorFits, Line, KeepsFinals, only_steps, Session, IsSession, IsChain, batches, place_through, chain_lines, place_of, received, Follow, told_final}
+use Rattle.resume_laws.specs.Sessions.{CursorFits, Line, line_len, step_lens, KeepsFinals, only_steps, Session, Rises, IsSession, IsChain, AreOnward, AreCut, batches, place_through, chain_lines, place_of, received, Follow, told_final}
 
 -- and so does the cursor of each step
 abbrev pub CursorsFit : Type 0
@@ -106,3 +106,15 @@ abbrev pub ChainGoesOn : Type 0
 ChainGoesOn = (newest : List Slip) (base : Option BlockRef) (place : Place) (sessions : List Session)
     → IsHistory newest → ClaimsAgree newest → PlaceFits newest place.end place.lib → IsUnder newest base place.lib
     → IsChain newest place sessions → GoesOn newest base place sessions
+
+-- how the lengths of the history go on over the lines of a chain, from what the first cursor has seen
+pub record NeverFalls (newest : List Slip) (place : Place) (seen : ℕ) (sessions : List Session) : Type 0 where
+  -- at the lines of steps they do not fall
+  pub steps : Rises (seen ∷ step_lens (chain_lines newest place sessions))
+  -- and where each session but the last is cut after a step, they do not at all lines
+  pub lines : AreCut newest place sessions → Rises (seen ∷ map line_len (chain_lines newest place sessions))
+
+-- never older: where each session begins at what its cursor has seen or later, a client is never told of an older history
+abbrev pub NeverOlder : Type 0
+NeverOlder = (newest : List Slip) (place : Place) (seen : ℕ) (sessions : List Session)
+    → AreOnward newest place seen sessions → NeverFalls newest place seen sessions

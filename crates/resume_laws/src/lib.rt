@@ -10,6 +10,7 @@ ghost use Rattle.resume_laws.specs.Laws.{
   BatchesStay,
   Resumption,
   ChainGoesOn,
+  NeverOlder,
 };
 
 /// The cursor of each step fits every later history.
@@ -45,4 +46,9 @@ pub fn resumption()
 /// What a client makes of a chain of sessions that begins where it stands.
 pub fn chain_goes_on()
     ensures { ChainGoesOn }
+{}
+
+/// No client is ever told of an older history.
+pub fn never_older()
+    ensures { NeverOlder }
 {}
