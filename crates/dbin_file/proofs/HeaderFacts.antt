@@ -1,16 +1,17 @@
 -- What a text says by its header, and with a further piece.
-use Rattle.std.proofs.Common.{◌≡◌, ℕ, ◌+◌, ◌-◌, ◌≤◌, ◌<◌, Bool, true, false, ◌&&◌, cond, ltb, List, [], ◌∷◌, ◌++◌, length, take, drop, refl, sym, ap, subst, ◌∙◌, arith, length-append, length-drop, length-take, IsTrue, Option, Some, None}
+use Rattle.std.proofs.Common.{◌≡◌, ℕ, ◌+◌, ◌-◌, ◌≤◌, ◌<◌, Bool, true, false, ◌&&◌, cond, ltb, List, [], ◌∷◌, ◌++◌, length, take, drop, refl, sym, ap, subst, ◌∙◌, append_assoc, inl, inr, arith, length-append, length-drop, length-take, IsTrue, Option, Some, None, Result}
 use Rattle.std.specs.Option.{is_some, option_map}
+use Rattle.std.specs.Int.{w16, from_be_bytes}
 use Rattle.std.specs.List.{position, position_or_len, list_all}
-use Rattle.std.proofs.lemmas.Bool.{le-ltb, ltb-false, ltb-true, and_parts, and_from, lt-ltb, le-leb}
-use Rattle.std.proofs.lemmas.List.{take-append-le, drop-append-le, drop-take, take_rest}
+use Rattle.std.proofs.lemmas.Bool.{le-ltb, ltb-false, ltb-true, and_parts, and_from, lt-ltb, le-leb, cases_lt}
+use Rattle.std.proofs.lemmas.List.{append-nil, take-append-le, drop-append-le, take-append-drop, drop-take, take_rest, take_at, drop_at}
 use Rattle.block_record.specs.Texts.{is_visible_byte, is_type_text}
 use Rattle.dbin_file.specs.declared.faults.DbinFault.{DbinFault}
-use Rattle.dbin_file.specs.declared.faults.DbinFault.TheVariants.{NotDbin}
-use Rattle.dbin_file.specs.Header.{type_length, type_bytes, mark_fault, version_fault, length_fault, type_fault, first_of, header_fault, header_size, is_hidden}
+use Rattle.dbin_file.specs.declared.faults.DbinFault.TheVariants.{NotDbin, Mem}
+use Rattle.dbin_file.specs.Header.{type_length, type_bytes, mark_fault, version_fault, length_fault, type_fault, first_of, header_fault, header_size, is_hidden, IsInHeader}
 use Rattle.dbin_file.specs.Messages.{split}
 use Rattle.dbin_file.specs.Contents.{Contents, contents, with_header, with_messages, told, place, rest_fault}
-use Rattle.dbin_file.specs.Reader.{ReaderState, kept, state_of, state_after, found, at_after, message_fault, with_piece}
+use Rattle.dbin_file.specs.Reader.{ReaderState, kept, state_of, state_after, found, at_after, message_fault, with_piece, without_memory, Answers, GrowsBy, IsRead, IsCutShort, IsCutShortAt}
 use Rattle.dbin_file.proofs.MessageFacts.{with_front, split-append, split-within}
 
 -- a header that is all there
@@ -210,6 +211,9 @@ finds text piece r is fine named = by_fault (header_fault text) refl
 pub record Keeps (text : List ℕ) (r : ReaderState) : Type 0 where
   pub messages_are : (contents text).messages ≡ []
   pub partial_is : r.partial ≡ text
+  pub header : IsInHeader text
+  pub type_is : r.block_type ≡ None
+  pub at_is : r.at ≡ 0
 
 pub keeps : (text : List ℕ) (r : ReaderState) → r ≡ state_after text → r.fault ≡ None → is_some r.block_type ≡ false → Keeps text r
 keeps text r is fine unnamed = by_fault (header_fault text) refl
@@ -223,7 +227,14 @@ keeps text r is fine unnamed = by_fault (header_fault text) refl
     by_size : header_fault text ≡ None → (o : Option ℕ) → header_size text ≡ o → Keeps text r
     by_size good None e =
         let cut = is_cut text good e in
-        record { messages_are = cut.messages_are; partial_is = ap (λ (q : ReaderState). q.partial) (is ∙ cut.state_is) }
+        let state = is ∙ cut.state_is in
+        record {
+          messages_are = cut.messages_are;
+          partial_is = ap (λ (q : ReaderState). q.partial) state;
+          header = record { good = good; cut = e };
+          type_is = ap (λ (q : ReaderState). q.block_type) state;
+          at_is = ap (λ (q : ReaderState). q.at) state;
+        }
     by_size good (Some n) e = absurd (let c = is_whole text n good e in let no : is_some (let q : Option (List ℕ) = Some (type_bytes text) in q) ≡ false = subst (λ (y : Contents). is_some y.block_type ≡ false) c unnamed' in cc)
 
     by_fault : (o : Option DbinFault) → header_fault text ≡ o → Keeps text r
@@ -234,16 +245,121 @@ keeps text r is fine unnamed = by_fault (header_fault text) refl
 pub all_further : (text piece : List ℕ) (r : ReaderState) → Keeps text r → (contents (text ++ piece)).messages ≡ (contents text).messages ++ (contents (text ++ piece)).messages
 all_further text piece r k = sym (ap (λ (l : List (List ℕ)). l ++ (contents (text ++ piece)).messages) k.messages_are)
 
+-- all of a text and a piece was read at once, where the text ends in its header
+pub read_at_once : (text piece all : List ℕ) (r now : ReaderState) (result : Result Unit DbinFault) (before out : List (List ℕ)) → Keeps text r → all ≡ text ++ piece
+    → Answers result (contents all).fault → now ≡ state_after all → GrowsBy before out (contents all).messages → IsRead text piece result now before out
+read_at_once text piece all r now result before out k is answer state grows = record {
+  answer = subst (λ (l : List ℕ). Answers result (contents l).fault) is answer;
+  state = state ∙ ap state_after is;
+  more = (contents (text ++ piece)).messages;
+  further = all_further text piece r k;
+  grows = grows ∙ ap (λ (l : List ℕ). before ++ (contents l).messages) is;
+}
+
+-- a reader that begins with the messages after the header
+pub start_is : (text : List ℕ) (n : ℕ) (t : List ℕ) (f : Option DbinFault) (l : List ℕ) → t ≡ type_bytes text → f ≡ None → l ≡ []
+    → (let r : ReaderState = record { block_type = Some t; fault = f; at = n; partial = l } in r) ≡ record { block_type = Some (type_bytes text); fault = None; at = n; partial = [] }
+start_is text n t f l named fine empty =
+    ap (λ (x : List ℕ). let q : ReaderState = record { block_type = Some x; fault = f; at = n; partial = l } in q) named
+    ∙ ap (λ (x : Option DbinFault). let q : ReaderState = record { block_type = Some (type_bytes text); fault = x; at = n; partial = l } in q) fine
+    ∙ ap (λ (x : List ℕ). let q : ReaderState = record { block_type = Some (type_bytes text); fault = None; at = n; partial = x } in q) empty
+
 -- what a reader finds that begins with the messages
 pub begins_here : (text rest : List ℕ) (n : ℕ) (t : List ℕ) (f : Option DbinFault) (l : List ℕ) → header_fault text ≡ None → header_size text ≡ Some n
     → t ≡ type_bytes text → f ≡ None → l ≡ [] → rest ≡ drop n text → (let r : ReaderState = record { block_type = Some t; fault = f; at = n; partial = l } in Begins text r rest)
 begins_here text rest n t f l good size named fine empty is =
     let r : ReaderState = record { block_type = Some t; fault = f; at = n; partial = l } in
-    let same_r : r ≡ record { block_type = Some (type_bytes text); fault = None; at = n; partial = [] } =
-    ap (λ (x : List ℕ). let q : ReaderState = record { block_type = Some x; fault = f; at = n; partial = l } in q) named
-    ∙ ap (λ (x : Option DbinFault). let q : ReaderState = record { block_type = Some (type_bytes text); fault = x; at = n; partial = l } in q) fine
-    ∙ ap (λ (x : List ℕ). let q : ReaderState = record { block_type = Some (type_bytes text); fault = None; at = n; partial = x } in q) empty in
-    subst (λ (x : List ℕ). Begins text r x) (sym is) (begins text n r good size same_r)
+    subst (λ (x : List ℕ). Begins text r x) (sym is) (begins text n r good size (start_is text n t f l named fine empty))
+
+-- ---- no memory
+
+-- a reader past its header that was cut short is cut short after the text that it was fed
+pub cut_short_past : (text piece : List ℕ) (r now : ReaderState) (before out : List (List ℕ)) → r ≡ state_after text → r.fault ≡ None → IsTrue (is_some r.block_type)
+    → IsCutShortAt r piece now before out → IsCutShort text piece now before out
+cut_short_past text piece r now before out is fine named s =
+    let f = finds text s.front r is fine named in
+    record {
+      front = s.front;
+      is_front = s.is_front;
+      more = (found r s.front).0;
+      further = f.further;
+      grows = s.grows;
+      state = s.state ∙ ap without_memory f.state_is;
+    }
+
+-- nothing was taken after a text that ends in its header
+pub nothing_taken : (text piece : List ℕ) (t : Option (List ℕ)) (at : ℕ) (out : List (List ℕ)) → IsInHeader text → t ≡ None → at ≡ 0
+    → (let r : ReaderState = record { block_type = t; fault = Some Mem; at = at; partial = [] } in IsCutShort text piece r out out)
+nothing_taken text piece t at out h named start =
+    let cut = is_cut text h.good h.cut in
+    let r : ReaderState = record { block_type = t; fault = Some Mem; at = at; partial = [] } in
+    let as_new : r ≡ record { block_type = None; fault = Some Mem; at = 0; partial = [] } =
+    ap (λ (x : Option (List ℕ)). let q : ReaderState = record { block_type = x; fault = Some Mem; at = at; partial = [] } in q) named
+    ∙ ap (λ (n : ℕ). let q : ReaderState = record { block_type = None; fault = Some Mem; at = n; partial = [] } in q) start in
+    record {
+      front = [];
+      is_front = (piece, refl);
+      more = [];
+      further = ap (λ (l : List ℕ). (contents l).messages) (append-nil text) ∙ sym (append-nil (contents text).messages);
+      grows = sym (append-nil out);
+      state = as_new ∙ sym (ap without_memory (ap state_after (append-nil text) ∙ cut.state_is));
+    }
+
+-- the length of the type is that of every longer text
+type_length-append : (text more : List ℕ) → 7 ≤ length text → type_length (text ++ more) ≡ type_length text
+type_length-append text more seven =
+    ap (from_be_bytes w16) (ap (take 2) (drop-append-le 5 text more (omega (arith, seven))) ∙ take-append-le 2 (drop 5 text) more (omega (arith, seven, length-drop 5 text)))
+
+-- a header that a piece ends is longer than what came before
+ends_later : (text piece : List ℕ) (n : ℕ) → header_size text ≡ None → Whole (text ++ piece) n → length text < n
+ends_later text piece n none w = elim (cases_lt (length text) n) [
+  | inl lt ↦ lt
+  | inr le ↦ absurd (let seven : 7 ≤ length text = omega (arith, le, w.size) in
+      let size : n ≡ 7 + type_length text = w.size ∙ ap (λ (k : ℕ). 7 + k) (type_length-append text piece seven) in
+      let is = size_from text n (record { seven = seven; size = size; within = le }) in
+      let clash = sym none ∙ is in
+      cc)
+]
+
+-- of two fronts of a text the longer one begins with the other
+front_past : (text piece longer rest : List ℕ) → text ++ piece ≡ longer ++ rest → length text ≤ length longer
+    → (text ++ drop (length text) longer ≡ longer) × (drop (length text) longer ++ rest ≡ piece)
+front_past text piece longer rest same fits =
+    let k = length text in
+    let front : text ≡ take k longer = sym (take_at text piece k refl) ∙ ap (take k) same ∙ take-append-le k longer rest fits in (
+      ap (λ (l : List ℕ). l ++ drop k longer) front ∙ take-append-drop k longer,
+      sym (drop-append-le k longer rest fits) ∙ ap (drop k) (sym same) ∙ drop_at text piece k refl,
+    )
+
+-- a reader that begins with the messages, and is cut short, is cut short in the piece that ended the header
+pub cut_short_here : (text before piece tail : List ℕ) (n : ℕ) (r now : ReaderState) (old out : List (List ℕ)) → text ≡ before ++ piece → IsInHeader before → header_fault text ≡ None → header_size text ≡ Some n
+    → r ≡ record { block_type = Some (type_bytes text); fault = None; at = n; partial = [] } → tail ≡ drop n text → IsCutShortAt r tail now old out → IsCutShort before piece now old out
+cut_short_here text before piece tail n r now old out is h good size state tail_is s =
+    let w = whole text n size in
+    let part : List ℕ = take n text ++ s.front in
+    let rest : List ℕ = s.is_front.0 in
+    let whole_is : part ++ rest ≡ text = append_assoc (take n text) s.front rest ∙ ap (λ (l : List ℕ). take n text ++ l) (s.is_front.1 ∙ tail_is) ∙ take-append-drop n text in
+    let head : length (take n text) ≡ n = omega (arith, length-take n text, w.within) in
+    let long : n ≤ length part = omega (arith, head, length-append (take n text) s.front) in
+    let seven : 7 ≤ length part = omega (arith, long, w.size) in
+    let typed : type_length text ≡ type_length part = ap type_length (sym whole_is) ∙ type_length-append part rest seven in
+    let w' : Whole part n = record { seven = seven; size = w.size ∙ ap (λ (k : ℕ). 7 + k) typed; within = long } in
+    let sm = same part rest n w' in
+    let good' : header_fault part ≡ None = sym sm.fault ∙ ap header_fault whole_is ∙ good in
+    let types : type_bytes text ≡ type_bytes part = ap type_bytes (sym whole_is) ∙ sm.type_is in
+    let b = begins part n r good' (size_from part n w') (state ∙ ap (λ (x : List ℕ). let q : ReaderState = record { block_type = Some x; fault = None; at = n; partial = [] } in q) types) in
+    let dropped : drop n part ≡ s.front = drop_at (take n text) s.front n head in
+    let late = ends_later before piece n h.cut (subst (λ (l : List ℕ). Whole l n) is w) in
+    let f = front_past before piece part rest (sym is ∙ sym whole_is) (omega (arith, late, long)) in
+    let cut = is_cut before h.good h.cut in
+    record {
+      front = drop (length before) part;
+      is_front = (rest, f.1);
+      more = (found r s.front).0;
+      further = ap (λ (l : List ℕ). (contents l).messages) f.0 ∙ b.messages_are ∙ ap (λ (l : List ℕ). (found r l).0) dropped ∙ sym (ap (λ (l : List (List ℕ)). l ++ (found r s.front).0) cut.messages_are);
+      grows = s.grows;
+      state = s.state ∙ ap (λ (l : List ℕ). without_memory (with_piece r l)) (sym dropped) ∙ ap without_memory b.state_is ∙ ap (λ (l : List ℕ). without_memory (state_after l)) (sym f.0);
+    }
 
 -- ---- the type
 

@@ -4,7 +4,7 @@ use Rattle.dbin_file.specs.declared.faults.DbinFault.{DbinFault}
 use Rattle.dbin_file.specs.declared.faults.DbinFault.TheVariants.{MessageTooLong}
 use Rattle.dbin_file.specs.Messages.{message_length, has_message, Split, split, is_too_long, is_partial, IsWithin}
 use Rattle.dbin_file.specs.Contents.{told, rest_fault}
-use Rattle.dbin_file.specs.Reader.{ReaderState, kept, found, at_after, message_fault, with_piece, Answers, GrowsByFront}
+use Rattle.dbin_file.specs.Reader.{ReaderState, kept, found, at_after, message_fault, with_piece, without_memory, Answers, IsCutShortAt}
 use Rattle.std.specs.Result.{IsErrAnd}
 use Rattle.std.proofs.lemmas.List.{append-nil, take-append-drop}
 use Rattle.dbin_file.proofs.MessageFacts.{partial_is, split-partial, split-too_long, split-whole, with_front, split-append, split-within, too_long, too_long-append, message_length-append}
@@ -212,12 +212,14 @@ module _ (r : ReaderState) (piece : List ℕ) (before out : List (List ℕ)) (no
         grown = taking.grown ∙ ap (λ (p : List ℕ). before ++ (found r p).0) (sym whole);
       }
 
-  -- some of the first messages of the piece
-  pub takes_front : GrowsByFront before out (found r piece).0
-  takes_front =
-      let e = (follows r taking.taken rest taking.good).messages_are in
-      let all : (found r piece).0 ≡ (found r taking.taken).0 ++ (found (with_piece r taking.taken) rest).0 = ap (λ (p : List ℕ). (found r p).0) taking.parts ∙ e in
-      ((found r taking.taken).0, ((found (with_piece r taking.taken) rest).0, sym all), taking.grown)
+  -- there was no memory for what follows
+  pub takes_front : (now' : ReaderState) (out' : List (List ℕ)) → without_memory now' ≡ without_memory now → out' ≡ out → IsCutShortAt r piece (without_memory now') before out'
+  takes_front now' out' stays same = record {
+    front = taking.taken;
+    is_front = (rest, sym taking.parts);
+    grows = same ∙ taking.grown;
+    state = stays ∙ ap without_memory taking.state;
+  }
 
 -- a fault that is handed on is the same
 pub same_fault : {A : Type 0} (r : Result A DbinFault) (e : DbinFault) → IsErrAnd r (λ x. x ≡ e) → r ≡ Err e

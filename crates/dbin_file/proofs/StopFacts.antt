@@ -1,18 +1,18 @@
 -- A fault that stays with a further piece.
-use Rattle.std.proofs.Common.{◌≡◌, ℕ, zero, suc, ◌+◌, ◌-◌, ◌≤◌, ◌<◌, Bool, true, false, cond, ltb, List, [], ◌∷◌, ◌++◌, length, take, drop, refl, sym, ap, ◌∙◌, arith, length-append, length-drop, Option, Some, None}
+use Rattle.std.proofs.Common.{◌≡◌, ℕ, zero, suc, ◌+◌, ◌-◌, ◌≤◌, ◌<◌, Bool, true, false, cond, ltb, List, [], ◌∷◌, ◌++◌, length, take, drop, refl, sym, ap, ◌∙◌, arith, length-append, length-drop, Option, Some, None, Result, Err}
 use Rattle.std.specs.Prelude.{codes}
 use Rattle.std.specs.Option.{option_map}
 use Rattle.std.specs.List.{position, position_or_len, zip}
 use Rattle.std.proofs.lemmas.Bool.{le-ltb, ltb-false, ltb-true, lt-ltb}
 use Rattle.std.proofs.lemmas.List.{drop-append-le, append-nil}
 use Rattle.dbin_file.specs.declared.faults.DbinFault.{DbinFault}
-use Rattle.dbin_file.specs.declared.faults.DbinFault.TheVariants.{NotDbin, MessageTooLong}
+use Rattle.dbin_file.specs.declared.faults.DbinFault.TheVariants.{NotDbin, MessageTooLong, Mem}
 use Rattle.dbin_file.specs.Header.{type_length, type_bytes, mark_fault, version_fault, length_fault, type_fault, first_of, header_fault, header_size, is_hidden, is_other}
 use Rattle.dbin_file.specs.Messages.{message_length, is_too_long, split}
 use Rattle.dbin_file.specs.Contents.{Contents, contents, with_messages, told, place, rest_fault}
-use Rattle.dbin_file.specs.Reader.{ReaderState, kept, state_of, state_after, AreFurther}
+use Rattle.dbin_file.specs.Reader.{ReaderState, kept, state_of, state_after, without_memory, IsRead, IsCutShort}
 use Rattle.dbin_file.proofs.MessageFacts.{with_front, split-append, split-within, split-too_long, too_long, too_long-append, message_length-append}
-use Rattle.dbin_file.proofs.PieceFacts.{rest_bad}
+use Rattle.dbin_file.proofs.PieceFacts.{rest_bad, answers}
 use Rattle.dbin_file.proofs.HeaderFacts.{whole, same, is_bad, is_cut, is_whole}
 
 -- ---- places
@@ -238,8 +238,30 @@ stopped text piece f bad = by_fault (header_fault text) refl
         }
 
 -- a reader that has stopped
-pub stays_stopped : (text piece : List ℕ) (r : ReaderState) (f : DbinFault) → r ≡ state_after text → r.fault ≡ Some f
-    → AreFurther text piece [] × ((contents (text ++ piece)).fault ≡ Some f) × (r ≡ state_after (text ++ piece))
-stays_stopped text piece r f is bad =
+pub stays_stopped : (text piece : List ℕ) (r : ReaderState) (f : DbinFault) (result : Result Unit DbinFault) (out : List (List ℕ)) → r ≡ state_after text → r.fault ≡ Some f
+    → result ≡ Err f → IsRead text piece result r out out
+stays_stopped text piece r f result out is bad said =
     let s = stopped text piece f (sym (ap (λ (q : ReaderState). q.fault) is) ∙ bad) in
-    (s.messages_are ∙ sym (append-nil (contents text).messages), s.fault_is, is ∙ sym s.state_is)
+    record {
+      answer = answers result f (contents (text ++ piece)).fault said s.fault_is;
+      state = is ∙ sym s.state_is;
+      more = [];
+      further = s.messages_are ∙ sym (append-nil (contents text).messages);
+      grows = sym (append-nil out);
+    }
+
+-- a reader that has stopped for want of memory
+pub stays_cut_short : (text piece : List ℕ) (r : ReaderState) (out : List (List ℕ)) → r ≡ state_after text → r.fault ≡ Some Mem → IsCutShort text piece r out out
+stays_cut_short text piece r out is bad =
+    let c = contents text in
+    let bad' : c.fault ≡ Some Mem = sym (ap (λ (q : ReaderState). q.fault) is) ∙ bad in
+    let kept_is : state_after text ≡ without_memory (state_after text) =
+    ap (λ (f : Option DbinFault). let q : ReaderState = record { block_type = c.block_type; fault = f; at = place (length text) c.rest; partial = kept f c.rest } in q) bad' in
+    record {
+      front = [];
+      is_front = (piece, refl);
+      more = [];
+      further = ap (λ (l : List ℕ). (contents l).messages) (append-nil text) ∙ sym (append-nil c.messages);
+      grows = sym (append-nil out);
+      state = is ∙ kept_is ∙ ap (λ (l : List ℕ). without_memory (state_after l)) (sym (append-nil text));
+    }

@@ -1,5 +1,5 @@
 -- The header of a container: the mark `dbin`, the version 1, and the type of its messages after two bytes for its length.
-use Rattle.std.specs.Prelude.{ℕ, ◌+◌, ◌==◌, ◌&&◌, nat_lt, Bool, not, List, [], ◌∷◌, ◌++◌, length, take, drop, if◌then◌else◌, Option, None, Some, slice_get, option_and_then, codes}
+use Rattle.std.specs.Prelude.{ℕ, ◌≡◌, ◌+◌, ◌==◌, ◌&&◌, nat_lt, Bool, not, List, [], ◌∷◌, ◌++◌, length, take, drop, if◌then◌else◌, Option, None, Some, slice_get, option_and_then, codes}
 use Rattle.std.specs.List.{position, zip}
 use Rattle.std.specs.Option.{option_map}
 use Rattle.std.specs.Int.{w16, to_be_bytes, from_be_bytes}
@@ -62,3 +62,8 @@ header_size text =
     if nat_lt (length text) 7 then None
     else if nat_lt (length text) (7 + type_length text) then None
     else Some (7 + type_length text)
+
+-- a text ends in its header, which has no fault so far
+pub record IsInHeader (text : List ℕ) : Type 0 where
+  pub good : header_fault text ≡ None
+  pub cut : header_size text ≡ None

@@ -52,6 +52,10 @@ cut_fault (Some block_type) at partial = if length partial == 0 then None else S
 abbrev pub end_fault : ReaderState → Option DbinFault
 end_fault r = first_of (r.fault ∷ cut_fault r.block_type r.at r.partial ∷ [])
 
+-- a reader that has stopped because there was no memory: it keeps its type and its place
+abbrev pub without_memory : ReaderState → ReaderState
+without_memory r = record r { fault = Some Mem; partial = [] }
+
 -- a fact, unless there was no memory
 abbrev pub UnlessMem : {T : Type 0} → Result T DbinFault → Type 0 → Type 0
 UnlessMem result P = result ≢ Err Mem → P
@@ -64,10 +68,30 @@ Answers result fault = MatchResult result (λ _. fault ≡ None) (λ f. fault �
 abbrev pub GrowsBy : List (List ℕ) → List (List ℕ) → List (List ℕ) → Type 0
 GrowsBy old new messages = new ≡ old ++ messages
 
--- messages grew by a front of these
-abbrev pub GrowsByFront : List (List ℕ) → List (List ℕ) → List (List ℕ) → Type 0
-GrowsByFront old new messages = (front : List (List ℕ)) × IsPrefix front messages × GrowsBy old new front
-
 -- these are the messages that a text has with a further piece, beyond those that it has without
 abbrev pub AreFurther : List ℕ → List ℕ → List (List ℕ) → Type 0
 AreFurther text piece more = (contents (text ++ piece)).messages ≡ (contents text).messages ++ more
+
+-- a piece after this text was read: the answer is the fault of both together, the reader is that of both, and the messages grew by those that the piece adds
+pub record IsRead (text piece : List ℕ) (result : Result Unit DbinFault) (now : ReaderState) (before out : List (List ℕ)) : Type 0 where
+  pub answer : Answers result (contents (text ++ piece)).fault
+  pub state : now ≡ state_after (text ++ piece)
+  pub more : List (List ℕ)
+  pub further : AreFurther text piece more
+  pub grows : GrowsBy before out more
+
+-- within a piece after this text there was no memory: the messages grew by those that a front of the piece adds, and type and place are those after this front
+pub record IsCutShort (text piece : List ℕ) (now : ReaderState) (before out : List (List ℕ)) : Type 0 where
+  pub front : List ℕ
+  pub is_front : IsPrefix front piece
+  pub more : List (List ℕ)
+  pub further : AreFurther text front more
+  pub grows : GrowsBy before out more
+  pub state : now ≡ without_memory (state_after (text ++ front))
+
+-- the same of a reader past its header, whatever it was fed
+pub record IsCutShortAt (r : ReaderState) (piece : List ℕ) (now : ReaderState) (before out : List (List ℕ)) : Type 0 where
+  pub front : List ℕ
+  pub is_front : IsPrefix front piece
+  pub grows : GrowsBy before out (found r front).0
+  pub state : now ≡ without_memory (with_piece r front)

@@ -4,7 +4,8 @@ ghost use Rattle.std.specs.Prelude.{◌≡◌, ◌≢◌, ◌++◌, ◌≤◌, �
 ghost use Rattle.std.specs.Option.{option_copied, is_some};
 ghost use Rattle.dbin_file.specs.Messages.{IsWithin, is_partial};
 ghost use Rattle.dbin_file.specs.Contents.{contents};
-ghost use Rattle.dbin_file.specs.Reader.{state_after, end_fault, found, message_fault, with_piece, UnlessMem, Answers, GrowsBy, GrowsByFront, AreFurther};
+ghost use Rattle.dbin_file.specs.Header.{IsInHeader};
+ghost use Rattle.dbin_file.specs.Reader.{state_after, end_fault, found, message_fault, with_piece, without_memory, UnlessMem, Answers, GrowsBy, IsRead, IsCutShort, IsCutShortAt};
 
 use crate::faults::DbinFault;
 use crate::headers::{TYPE_AT, header_fault, header_size};
@@ -62,20 +63,12 @@ impl DbinReader {
     /// Reads a further piece of the container, and appends the messages that end in it, up to the
     /// first fault.
     pub fn feed(&mut self, piece: &[u8], out: &mut Vec<Bytes>) -> Result<(), DbinFault>
-        // Whatever text was fed before, in any pieces, the answer is that to all of it.
-        ensures further { (text : List ℕ) → self.old ≡ state_after text
-            → UnlessMem result ((more : List (List ℕ)) × AreFurther text piece.now more
-            × GrowsBy out.old.items out.new.items more) }
-        ensures answer { (text : List ℕ) → self.old ≡ state_after text
-            → UnlessMem result (Answers result (contents (text ++ piece.now)).fault) }
-        ensures state { (text : List ℕ) → self.old ≡ state_after text
-            → UnlessMem result (self.new ≡ state_after (text ++ piece.now)) }
-
-        // Without memory some of the first messages are there, and the fault stays.
-        ensures memory { (text : List ℕ) → self.old ≡ state_after text
-            → result ≡ Err DbinFault.Mem
-            → (more : List (List ℕ)) × AreFurther text piece.now more
-            × GrowsByFront out.old.items out.new.items more }
+        // Whatever text was fed before, in any pieces, all of it was read, or a front of it where
+        // there was no memory.
+        ensures read { (text : List ℕ) → self.old ≡ state_after text → UnlessMem result
+            (IsRead text piece.now result self.new out.old.items out.new.items) }
+        ensures memory { (text : List ℕ) → self.old ≡ state_after text → result ≡ Err DbinFault.Mem
+            → IsCutShort text piece.now self.new out.old.items out.new.items }
         ensures keeps { result ≡ Err DbinFault.Mem → self.new.fault ≡ Some DbinFault.Mem }
 
         // After a fault it answers the same fault, and gives nothing.
@@ -118,17 +111,10 @@ impl DbinReader {
     /// Takes a piece, where there was no fault before.
     fn take_piece(&mut self, piece: &[u8], out: &mut Vec<Bytes>) -> Result<(), DbinFault>
         requires { self.old.fault ≡ None }
-        ensures further { (text : List ℕ) → self.old ≡ state_after text
-            → UnlessMem result ((more : List (List ℕ)) × AreFurther text piece.now more
-            × GrowsBy out.old.items out.new.items more) }
-        ensures answer { (text : List ℕ) → self.old ≡ state_after text
-            → UnlessMem result (Answers result (contents (text ++ piece.now)).fault) }
-        ensures state { (text : List ℕ) → self.old ≡ state_after text
-            → UnlessMem result (self.new ≡ state_after (text ++ piece.now)) }
-        ensures memory { (text : List ℕ) → self.old ≡ state_after text
-            → result ≡ Err DbinFault.Mem
-            → (more : List (List ℕ)) × AreFurther text piece.now more
-            × GrowsByFront out.old.items out.new.items more }
+        ensures read { (text : List ℕ) → self.old ≡ state_after text → UnlessMem result
+            (IsRead text piece.now result self.new out.old.items out.new.items) }
+        ensures memory { (text : List ℕ) → self.old ≡ state_after text → result ≡ Err DbinFault.Mem
+            → IsCutShort text piece.now (without_memory self.new) out.old.items out.new.items }
     {
         if self.block_type.is_some() {
             return self.take_messages(piece, out);
@@ -150,8 +136,9 @@ impl DbinReader {
         ensures state { UnlessMem result (self.new ≡ state_after text.now) }
         ensures grows { UnlessMem result
             (GrowsBy out.old.items out.new.items (contents text.now).messages) }
-        ensures memory { result ≡ Err DbinFault.Mem
-            → GrowsByFront out.old.items out.new.items (contents text.now).messages }
+        ensures memory { (before piece : List ℕ) → text.now ≡ before ++ piece → IsInHeader before
+            → result ≡ Err DbinFault.Mem
+            → IsCutShort before piece (without_memory self.new) out.old.items out.new.items }
     {
         self.at = 0;
         if let Some(fault) = header_fault(text) {
@@ -180,8 +167,8 @@ impl DbinReader {
         ensures state { UnlessMem result (self.new ≡ with_piece self.old piece.now) }
         ensures grows { UnlessMem result
             (GrowsBy out.old.items out.new.items (found self.old piece.now).0) }
-        ensures memory { result ≡ Err DbinFault.Mem
-            → GrowsByFront out.old.items out.new.items (found self.old piece.now).0 }
+        ensures memory { result ≡ Err DbinFault.Mem → IsCutShortAt self.old piece.now
+            (without_memory self.new) out.old.items out.new.items }
     {
         let mut rest = piece;
         while !rest.is_empty() {
@@ -203,6 +190,8 @@ impl DbinReader {
         ensures grows { UnlessMem result
             (GrowsBy out.old.items out.new.items (found self.old front.now).0) }
         ensures memory { result ≡ Err DbinFault.Mem → out.new.items ≡ out.old.items }
+        ensures stays { result ≡ Err DbinFault.Mem
+            → without_memory self.new ≡ without_memory self.old }
     {
         let at = self.at;
         self.partial.extend_from_slice(front)?;
@@ -214,9 +203,10 @@ impl DbinReader {
             }
             Begun::Whole => {
                 let message = Bytes::new(self.alloc, &self.partial[4..]);
-                self.at = at.saturating_add(self.partial.len() as u64);
+                let size = self.partial.len() as u64;
                 self.partial.clear();
                 out.push(message?)?;
+                self.at = at.saturating_add(size);
                 Ok(())
             }
         }

@@ -95,7 +95,7 @@ returns-in_ok-push-in-Whole-clause-state c =
     let within : IsWithin c.extend_from_slice.new.self.items = rw here c.requires.within in
     let b = brings_whole c.args.self.now c.args.front.now c.extend_from_slice.new.self.items here is within c.requires.good in
     let at : c.saturating_add-self-inside.result ≡ told (c.args.self.now.at + length c.extend_from_slice.new.self.items) =
-    (let sum : c.saturating_add-self-inside.result ≡ told (c.self.inside.at + length c.extend_from_slice.new.self.items) = grind (arith, c.saturating_add-self-inside.ensures, c.len.ensures) in
+    (let sum : c.saturating_add-self-inside.result ≡ told (c.self.inside.at + length c.extend_from_slice.new.self.items) = grind (arith, c.saturating_add-self-inside.ensures, c.len-size.ensures) in
     sum ∙ ap (λ (n : ℕ). told (n + length c.extend_from_slice.new.self.items)) (ap (λ (s : ReaderState). s.at) c.self.view_is)) in
     λ apart. ap (λ (s : ReaderState). record s { at = c.saturating_add-self-inside.result; partial = c.clear-in-Whole.new.self.items }) c.self.view_is
     ∙ ap (λ (n : ℕ). record c.args.self.now { at = n; partial = c.clear-in-Whole.new.self.items }) at

@@ -42,8 +42,7 @@ pub returns-in_err-go_on-clause-memory : goal.returns-in_err-go_on-clause-memory
 returns-in_err-go_on-clause-memory c = λ mem.
     let same = same_fault c.from_residual.result c.in_err-go_on.field-0.0 c.from_residual.ensures.1 in
     let none : (let q : Result Unit DbinFault = Err c.in_err-go_on.field-0.0 in q ≡ Err Mem) = sym same ∙ mem in
-    let front = takes_front c.args.self.now c.args.piece.now c.args.out.now.items c.loop-rest.out.items c.loop-rest.self c.loop-rest.rest.now c.loop-rest.invariant in
-    (front.0, front.1, c.in_err-go_on.ensures.memory none ∙ front.2)
+    takes_front c.args.self.now c.args.piece.now c.args.out.now.items c.loop-rest.out.items c.loop-rest.self c.loop-rest.rest.now c.loop-rest.invariant c.go_on.new.self c.go_on.new.out.items (c.in_err-go_on.ensures.stays none) (c.in_err-go_on.ensures.memory none)
 
 pub loop-rest-preserved : goal.loop-rest-preserved
 loop-rest-preserved c =
