@@ -3,4 +3,4 @@ mod WordFacts
 mod ReadFacts
 mod FaultFacts
 mod PrintFacts
-mod TextFacts
+pub mod public

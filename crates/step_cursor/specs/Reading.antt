@@ -14,8 +14,8 @@ use Rattle.step_cursor.specs.declared.cursor.CursorFault.{CursorFault}
 use Rattle.step_cursor.specs.declared.cursor.CursorFault.TheVariants.{Malformed, Mem}
 use Rattle.step_cursor.specs.declared.form.Form.{Form}
 use Rattle.step_cursor.specs.declared.form.Form.TheVariants.{AtEnd, AtLib, Apart}
-use Rattle.step_cursor.specs.declared.refs.RefText.{RefText}
-use Rattle.step_cursor.specs.declared.refs.CursorText.{CursorText}
+use Rattle.step_cursor.specs.declared.refs.RefView.{RefView}
+use Rattle.step_cursor.specs.declared.refs.CursorView.{CursorView}
 use Rattle.step_cursor.specs.CursorText.{form_for}
 use Rattle.step_cursor.specs.CursorParts.{form_named, step_named, id_of, is_missing}
 
@@ -38,11 +38,11 @@ abbrev pub seen : List (Bor (List ℕ)) → List (List ℕ)
 seen texts = map (λ t. t.now) texts
 
 -- a block by number and id, as the code reads it
-abbrev pub ref_seen : RefText → BlockRef
+abbrev pub ref_seen : RefView → BlockRef
 ref_seen r = record { num = r.num; id = r.id.now }
 
 -- a cursor, as the code reads it
-abbrev pub cursor_seen : CursorText → Cursor
+abbrev pub cursor_seen : CursorView → Cursor
 cursor_seen c = record {
   step = c.step;
   block = ref_seen c.block;

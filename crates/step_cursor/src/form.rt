@@ -6,7 +6,7 @@ ghost use Rattle.step_cursor.specs.CursorText.{step_number as number_as, form_fo
 ghost use Rattle.step_cursor.specs.CursorParts.{form_named as form_by_name, step_named as step_by_name};
 ghost use Rattle.step_cursor.specs.Reading.{ref_seen, word_count};
 
-use crate::refs::RefText;
+use crate::refs::RefView;
 use chain_model::Step;
 
 /// The forms of the plain text, by which block of the place is the step's block.
@@ -22,7 +22,7 @@ pub enum Form {
 
 impl Form {
     /// The first form that fits a block with this end and lib.
-    pub fn of(block: RefText<'_>, end: Option<RefText<'_>>, lib: Option<RefText<'_>>) -> Form
+    pub fn of(block: RefView<'_>, end: Option<RefView<'_>>, lib: Option<RefView<'_>>) -> Form
         ensures { result ≡ form_for (ref_seen block.entry)
             (option_map ref_seen end.entry) (option_map ref_seen lib.entry) }
     {
@@ -59,7 +59,7 @@ impl Form {
 
 /// Whether the block at a reference is this one.
 #[tactic(auto, unfolding(block_record::specs::Ids::same_id))]
-fn is_at(reference: Option<RefText<'_>>, block: RefText<'_>) -> bool
+fn is_at(reference: Option<RefView<'_>>, block: RefView<'_>) -> bool
     ensures { result ≡ is_block_at (option_map ref_seen reference.entry) (ref_seen block.entry) }
 {
     match reference {

@@ -14,4 +14,5 @@ mod tests;
 pub use cursor::{Cursor, CursorFault, MisfitField, Request, Tail};
 pub use laws::printed_is_read;
 pub use parse::parse_cursor;
-pub use print::print_cursor;
+pub use print::{print_cursor, push_cursor};
+pub use refs::{CursorView, RefView};

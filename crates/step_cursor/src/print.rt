@@ -1,6 +1,6 @@
 //! The text of a cursor.
 
-ghost use Rattle.std.specs.Prelude.{◌≡◌, ◌++◌, ◌∷◌, [], IfOk, OnOk};
+ghost use Rattle.std.specs.Prelude.{◌≡◌, ◌++◌, ◌∷◌, [], IfOk, OnOk, OnErr};
 ghost use Rattle.std.specs.Fmt.{decimal};
 ghost use Rattle.std.specs.Option.{option_map};
 ghost use Rattle.step_cursor.specs.CursorText.{pair_words, place_words, plain_text as plain_text_of, cursor_text, tail_parts, IsPrintable};
@@ -8,7 +8,7 @@ ghost use Rattle.step_cursor.specs.Reading.{each_after, ref_seen, cursor_seen};
 
 use crate::cursor::{Cursor, Tail};
 use crate::form::{Form, step_number};
-use crate::refs::{CursorText, RefText};
+use crate::refs::{CursorView, RefView};
 use base64::engine::general_purpose::URL_SAFE_NO_PAD;
 use itoa::Buffer;
 use std::alloc::{AllocError, Global};
@@ -18,13 +18,28 @@ pub fn print_cursor(alloc: Global, cursor: &Cursor) -> Result<Vec<u8>, AllocErro
     ensures text { IfOk result (λ text. text.items ≡ cursor_text cursor.now) }
     ensures printable { OnOk result (IsPrintable cursor.now) }
 {
-    let plain = plain_text(alloc, CursorText::of(cursor))?;
-    let text = URL_SAFE_NO_PAD.encode(alloc, plain.as_slice())?;
-    Ok(text.into_bytes())
+    let mut text = Vec::new(alloc);
+    push_cursor(alloc, CursorView::of(cursor), &mut text)?;
+    Ok(text)
+}
+
+/// Appends the text of the cursor, and copies no id. Without memory the bytes stay as they are.
+pub fn push_cursor(
+    alloc: Global,
+    cursor: CursorView<'_>,
+    text: &mut Vec<u8>,
+) -> Result<(), AllocError>
+    ensures ok { OnOk result
+        (text.new.items ≡ text.old.items ++ cursor_text (cursor_seen cursor.entry)) }
+    ensures err { OnErr result (text.new.items ≡ text.old.items) }
+{
+    let plain = plain_text(alloc, cursor)?;
+    let encoded = URL_SAFE_NO_PAD.encode(alloc, plain.as_slice())?;
+    text.extend_from_slice(encoded.as_bytes())
 }
 
 /// The plain text of the cursor.
-fn plain_text(alloc: Global, cursor: CursorText<'_>) -> Result<Vec<u8>, AllocError>
+fn plain_text(alloc: Global, cursor: CursorView<'_>) -> Result<Vec<u8>, AllocError>
     ensures { IfOk result (λ text. text.items ≡ plain_text_of (cursor_seen cursor.entry)) }
 {
     let form = Form::of(cursor.block, cursor.end, cursor.lib);
@@ -39,8 +54,8 @@ fn plain_text(alloc: Global, cursor: CursorText<'_>) -> Result<Vec<u8>, AllocErr
 /// Appends the blocks of the place that the form writes.
 fn push_place(
     form: Form,
-    end: Option<RefText<'_>>,
-    lib: Option<RefText<'_>>,
+    end: Option<RefView<'_>>,
+    lib: Option<RefView<'_>>,
     text: &mut Vec<u8>,
 ) -> Result<(), AllocError>
     ensures { OnOk result (text.new.items ≡ text.old.items ++ each_after 58
@@ -57,7 +72,7 @@ fn push_place(
 }
 
 /// Appends a block that may be missing.
-fn push_pair(block: Option<RefText<'_>>, text: &mut Vec<u8>) -> Result<(), AllocError>
+fn push_pair(block: Option<RefView<'_>>, text: &mut Vec<u8>) -> Result<(), AllocError>
     ensures { OnOk result (text.new.items ≡ text.old.items
         ++ each_after 58 (pair_words (option_map ref_seen block.entry))) }
 {
@@ -68,7 +83,7 @@ fn push_pair(block: Option<RefText<'_>>, text: &mut Vec<u8>) -> Result<(), Alloc
 }
 
 /// Appends a block by number and id.
-fn push_ref(block: RefText<'_>, text: &mut Vec<u8>) -> Result<(), AllocError>
+fn push_ref(block: RefView<'_>, text: &mut Vec<u8>) -> Result<(), AllocError>
     ensures { OnOk result (text.new.items ≡ text.old.items
         ++ each_after 58 (decimal block.entry.num ∷ block.entry.id.now ∷ [])) }
 {

@@ -8,7 +8,7 @@ ghost use Rattle.step_cursor.specs.Reading.{seen as texts, ref_seen, cursor_seen
 
 use crate::cursor::Tail;
 use crate::form::{Form, form_named, step_named};
-use crate::refs::{CursorText, RefText};
+use crate::refs::{CursorView, RefView};
 use block_record::{is_id, read_number};
 use chain_model::Step;
 
@@ -63,18 +63,18 @@ fn is(part: Option<&[u8]>, text: &[u8]) -> bool
 
 /// Reads the block whose number is the word at the index, and whose id is the next. A bad number has
 /// the place `at`, and a bad id the next place.
-fn read_ref<'a>(words: &[&'a [u8]], index: usize, at: u8) -> Result<RefText<'a>, u8>
+fn read_ref<'a>(words: &[&'a [u8]], index: usize, at: u8) -> Result<RefView<'a>, u8>
     requires index { index < 8 }
     requires at { at < 8 }
     ensures { result_map ref_seen result ≡ ref_at (texts words.now) index at }
 {
     let num = number(text_at(words, index)).ok_or(at)?;
     let id = id(text_at(words, index + 1)).ok_or(at + 1)?;
-    Ok(RefText { num, id })
+    Ok(RefView { num, id })
 }
 
 /// The same of a block that may be missing.
-fn read_pair<'a>(words: &[&'a [u8]], index: usize, at: u8) -> Result<Option<RefText<'a>>, u8>
+fn read_pair<'a>(words: &[&'a [u8]], index: usize, at: u8) -> Result<Option<RefView<'a>>, u8>
     requires index { index < 8 }
     requires at { at < 8 }
     ensures { result_map (option_map ref_seen) result ≡ pair_at (texts words.now) index at }
@@ -87,7 +87,7 @@ fn read_pair<'a>(words: &[&'a [u8]], index: usize, at: u8) -> Result<Option<RefT
 }
 
 /// Reads the second pair after the block, where the form has one.
-fn read_second<'a>(form: Form, words: &[&'a [u8]]) -> Result<Option<RefText<'a>>, u8>
+fn read_second<'a>(form: Form, words: &[&'a [u8]]) -> Result<Option<RefView<'a>>, u8>
     ensures { result_map (option_map ref_seen) result ≡ second_at form (texts words.now) }
 {
     match form {
@@ -125,10 +125,10 @@ fn read_tail(parts: &[&[u8]]) -> Result<Option<Tail>, u8>
 /// The end and the lib that a form gives to its block and the pairs after it.
 fn place_of<'a>(
     form: Form,
-    block: RefText<'a>,
-    first: Option<RefText<'a>>,
-    second: Option<RefText<'a>>,
-) -> (Option<RefText<'a>>, Option<RefText<'a>>)
+    block: RefView<'a>,
+    first: Option<RefView<'a>>,
+    second: Option<RefView<'a>>,
+) -> (Option<RefView<'a>>, Option<RefView<'a>>)
     ensures end { option_map ref_seen result.0
         ≡ end_by form (ref_seen block.entry) (option_map ref_seen first.entry) }
     ensures lib { option_map ref_seen result.1
@@ -143,7 +143,7 @@ fn place_of<'a>(
 }
 
 /// The cursor, where no more words follow and no earlier form fits it.
-fn whole<'a>(form: Form, words: usize, read: CursorText<'a>) -> Result<CursorText<'a>, u8>
+fn whole<'a>(form: Form, words: usize, read: CursorView<'a>) -> Result<CursorView<'a>, u8>
     ensures { result_map cursor_seen result ≡ whole_of form words (cursor_seen read.entry) }
 {
     if words == form.word_count() && Form::of(read.block, read.end, read.lib) == form {
@@ -159,7 +159,7 @@ fn read_rest<'a>(
     step: Step,
     words: &[&'a [u8]],
     parts: &[&'a [u8]],
-) -> Result<CursorText<'a>, u8>
+) -> Result<CursorView<'a>, u8>
     ensures { result_map cursor_seen result
         ≡ rest_of form step (texts words.now) (texts parts.now) }
 {
@@ -168,7 +168,7 @@ fn read_rest<'a>(
     let second = read_second(form, words)?;
     let tail = read_tail(parts)?;
     let (end, lib) = place_of(form, block, first, second);
-    let read = CursorText {
+    let read = CursorView {
         step,
         block,
         end,
@@ -181,7 +181,7 @@ fn read_rest<'a>(
 
 /// Reads the words between the colons and the parts between the slashes of a plain text, or gives the
 /// place of the first bad part.
-pub fn read_cursor<'a>(words: &[&'a [u8]], parts: &[&'a [u8]]) -> Result<CursorText<'a>, u8>
+pub fn read_cursor<'a>(words: &[&'a [u8]], parts: &[&'a [u8]]) -> Result<CursorView<'a>, u8>
     ensures { result_map cursor_seen result ≡ cursor_of (texts words.now) (texts parts.now) }
 {
     let form = form(text_at(words, 0)).ok_or(1u8)?;

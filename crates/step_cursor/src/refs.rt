@@ -10,56 +10,56 @@ use block_record::{BlockRef, Id};
 use chain_model::{Place, Step};
 use std::alloc::{AllocError, Global};
 
-/// A block by number and id, with an id that isn't copied.
+/// A block by number and id, which isn't copied.
 #[derive(Clone, Copy)]
-pub struct RefText<'a> {
+pub struct RefView<'a> {
     pub num: u64,
     pub id: &'a [u8],
 }
 
-/// A cursor with ids that aren't copied.
+/// A cursor whose ids aren't copied. The end and the lib are those of the place after the step.
 #[derive(Clone, Copy)]
-pub struct CursorText<'a> {
+pub struct CursorView<'a> {
     pub step: Step,
-    pub block: RefText<'a>,
-    pub end: Option<RefText<'a>>,
-    pub lib: Option<RefText<'a>>,
+    pub block: RefView<'a>,
+    pub end: Option<RefView<'a>>,
+    pub lib: Option<RefView<'a>>,
     pub tail: Option<Tail>,
 }
 
-impl<'a> RefText<'a> {
+impl<'a> RefView<'a> {
     /// What a reference has.
-    pub fn of(block: &'a BlockRef) -> RefText<'a>
+    pub fn of(block: &'a BlockRef) -> RefView<'a>
         ensures value { ref_seen result ≡ block.now }
         ensures whole { IsRef block.now }
     {
-        RefText::with(block.num, &block.id)
+        RefView::with(block.num, &block.id)
     }
 
-    /// A number and an id.
-    fn with(num: u64, id: &'a Id) -> RefText<'a>
+    /// The block with this number and this id.
+    pub fn with(num: u64, id: &'a Id) -> RefView<'a>
         ensures value { ref_seen result ≡ record { num = num; id = id.now } }
         ensures whole { IsRef (ref_seen result) }
     {
-        RefText {
+        RefView {
             num,
             id: id.as_bytes(),
         }
     }
 
     /// The same where there may be none.
-    pub fn of_any(block: Option<&'a BlockRef>) -> Option<RefText<'a>>
+    pub fn of_any(block: Option<&'a BlockRef>) -> Option<RefView<'a>>
         ensures value { option_map ref_seen result ≡ option_copied block.entry }
         ensures whole { IsRefIfAny (option_copied block.entry) }
     {
         match block {
-            Some(block) => Some(RefText::of(block)),
+            Some(block) => Some(RefView::of(block)),
             None => None,
         }
     }
 
     /// The reference, with a copy of the id.
-    pub fn to_ref(self, alloc: Global) -> Result<BlockRef, AllocError>
+    pub(crate) fn to_ref(self, alloc: Global) -> Result<BlockRef, AllocError>
         requires { IsRef (ref_seen self) }
         ensures { IfOk result (λ block. block ≡ ref_seen self.entry) }
     {
@@ -71,7 +71,7 @@ impl<'a> RefText<'a> {
 }
 
 /// The reference that may be missing, with a copy of the id.
-fn to_any(alloc: Global, block: Option<RefText<'_>>) -> Result<Option<BlockRef>, AllocError>
+fn to_any(alloc: Global, block: Option<RefView<'_>>) -> Result<Option<BlockRef>, AllocError>
     requires { IsRefIfAny (option_map ref_seen block) }
     ensures { IfOk result (λ found. found ≡ option_map ref_seen block.entry) }
 {
@@ -93,24 +93,24 @@ fn has_numbers(tail: Option<Tail>)
     }
 }
 
-impl<'a> CursorText<'a> {
+impl<'a> CursorView<'a> {
     /// What a cursor has.
-    pub fn of(cursor: &'a Cursor) -> CursorText<'a>
+    pub fn of(cursor: &'a Cursor) -> CursorView<'a>
         ensures value { cursor_seen result ≡ cursor.now }
         ensures printable { IsPrintable cursor.now }
     {
         has_numbers(cursor.tail);
-        CursorText {
+        CursorView {
             step: cursor.step,
-            block: RefText::of(&cursor.block),
-            end: RefText::of_any(cursor.place.end.as_ref()),
-            lib: RefText::of_any(cursor.place.lib.as_ref()),
+            block: RefView::of(&cursor.block),
+            end: RefView::of_any(cursor.place.end.as_ref()),
+            lib: RefView::of_any(cursor.place.lib.as_ref()),
             tail: cursor.tail,
         }
     }
 
     /// The cursor, with copies of the ids.
-    pub fn to_cursor(self, alloc: Global) -> Result<Cursor, AllocError>
+    pub(crate) fn to_cursor(self, alloc: Global) -> Result<Cursor, AllocError>
         requires { IsPrintable (cursor_seen self) }
         ensures { IfOk result (λ cursor. cursor ≡ cursor_seen self.entry) }
     {

@@ -1,5 +1,5 @@
 use Rattle.std.proofs.Common.{Ok, Err, sym, subst, arith}
-use Rattle.step_cursor.proofs.TextFacts.{IsAnswerTo, answered_at, not_decoded, handed_on}
+use Rattle.step_cursor.proofs.public.TextFacts.{IsAnswerTo, answered_at, not_decoded, handed_on}
 use Rattle.step_cursor.proofs.parse.parse_cursor.Goals as goal
 
 pub returns-in_err-plain-clause-reads : goal.returns-in_err-plain-clause-reads

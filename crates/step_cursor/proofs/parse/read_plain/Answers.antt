@@ -2,7 +2,7 @@ use Rattle.std.proofs.Common.{[], Ok, sym, ap, ◌∙◌}
 use Rattle.std.specs.Prelude.{slice_get, unwrap_or}
 use Rattle.step_cursor.specs.Reading.{seen, answer, cursor_seen}
 use Rattle.step_cursor.proofs.ReadFacts.{plain_read}
-use Rattle.step_cursor.proofs.TextFacts.{cut_so}
+use Rattle.step_cursor.proofs.public.TextFacts.{cut_so}
 use Rattle.step_cursor.proofs.parse.read_plain.Goals as goal
 
 pub to_cursor-requires : goal.to_cursor-requires
