@@ -1,4 +1,4 @@
--- Facts of the waiting blocks whose parents are held: how many there are, and the only one.
+-- Facts of the waiting blocks whose parents are known: how many there are, and the only one.
 use Rattle.std.proofs.Common.{arith, ◌≡◌, ◌<◌, ◌+◌, ℕ, zero, suc, Bool, true, inl, inr, None, Option, Some, nat_lt, List, [], ◌∷◌, length, reverse, refl, sym, ◌∙◌, ap, cond, false}
 use Rattle.std.specs.List.{AllByRecursion, filter, slice_get}
 use Rattle.std.proofs.lemmas.Bool.{cases_Bool}
@@ -44,18 +44,18 @@ only_passes p (y ∷ ys) (suc i) x e pass one =
       | inr other ↦ rw other (only_passes p ys i x e pass (rw other at one))
     ]
 
--- the block at a place is the next one, where no other's parent is held
-pub only_next : (held : List Slip) (ws : List Waiter) (i : ℕ) (s : Slip) → slip_at (waiting_of ws) i ≡ Some s → has_id held s.parent_id ≡ true → linked_in held (waiting_of ws) ≡ 1 → Some s ≡ next_waiting held (waiting_of ws)
-only_next held ws i s e linked one =
-    let p = λ (t : Slip). has_id held t.parent_id in
+-- the block at a place is the next one, where no other's parent is known
+pub only_next : (known : List Slip) (ws : List Waiter) (i : ℕ) (s : Slip) → slip_at (waiting_of ws) i ≡ Some s → has_id known s.parent_id ≡ true → linked_in known (waiting_of ws) ≡ 1 → Some s ≡ next_waiting known (waiting_of ws)
+only_next known ws i s e linked one =
+    let p = λ (t : Slip). has_id known t.parent_id in
     let turned = filter_turned p (slips_of ws) in
     let at : slice_get (slips_of ws) i ≡ Some s = slice_get-map (λ (w : Waiter). w.slip) ws i ∙ sym (slip_at_slices ws i) ∙ e in
     let here : length (filter p (slips_of ws)) ≡ 1 = sym (length-reverse (filter p (slips_of ws))) ∙ sym (ap length turned) ∙ one in
     sym (ap least (turned ∙ ap reverse (only_passes p (slips_of ws) i s at linked here)))
 
 -- none is linked where there is no next one
-pub none_linked : (held waiting : List Slip) → next_waiting held waiting ≡ None → linked_in held waiting ≡ 0
-none_linked held waiting e = ap length (none_least (filter (λ (s : Slip). has_id held s.parent_id) waiting) e)
+pub none_linked : (known waiting : List Slip) → next_waiting known waiting ≡ None → linked_in known waiting ≡ 0
+none_linked known waiting e = ap length (none_least (filter (λ (s : Slip). has_id known s.parent_id) waiting) e)
   where
     some_lesser : (o : Option Slip) (s : Slip) → lesser o s ≡ None → ⊥
     some_lesser None s e = absurd (grind (arith, e))
@@ -70,40 +70,40 @@ none_linked held waiting e = ap length (none_least (filter (λ (s : Slip). has_i
     none_least (s ∷ older) e = absurd (some_lesser (least older) s e)
 
 -- and there is no next one where none is linked
-pub none_next : (held waiting : List Slip) → linked_in held waiting ≡ 0 → next_waiting held waiting ≡ None
-none_next held waiting e = ap least (nothing (filter (λ (s : Slip). has_id held s.parent_id) waiting) e)
+pub none_next : (known waiting : List Slip) → linked_in known waiting ≡ 0 → next_waiting known waiting ≡ None
+none_next known waiting e = ap least (nothing (filter (λ (s : Slip). has_id known s.parent_id) waiting) e)
   where
     nothing : (xs : List Slip) → length xs ≡ 0 → xs ≡ []
     nothing [] e = refl
     nothing (x ∷ xs) e = absurd (omega (arith, e))
 
--- none is linked where no block's parent is held
-pub none_held : (held waiting : List Slip) → AllByRecursion (λ s. has_id held s.parent_id ≡ false) waiting → linked_in held waiting ≡ 0
-none_held held [] apart = refl
-none_held held (s ∷ older) apart = rw apart.0 (none_held held older apart.1)
+-- none is linked where no block's parent is known
+pub none_held : (known waiting : List Slip) → AllByRecursion (λ s. has_id known s.parent_id ≡ false) waiting → linked_in known waiting ≡ 0
+none_held known [] apart = refl
+none_held known (s ∷ older) apart = rw apart.0 (none_held known older apart.1)
 
 swap_true : (a b : List ℕ) → same_id a b ≡ true → same_id b a ≡ true
 swap_true a b same = sym (same_id_equiv.symm a b) ∙ same
 
 -- how many are left once the next one is taken
-pub linked_taken : (held before after : List Slip) (s : Slip) → Some s ≡ next_waiting held before
+pub linked_taken : (known before after : List Slip) (s : Slip) → Some s ≡ next_waiting known before
     → ((p : Slip → Bool) → length (filter p before) ≡ length (filter p after) + cond (p s) 1 0)
-    → linked_in held before ≡ linked_in held after + 1
-linked_taken held before after s e counts =
-    let p = λ (t : Slip). has_id held t.parent_id in
-    let one = (next_is held before s (sym e)).parent in
+    → linked_in known before ≡ linked_in known after + 1
+linked_taken known before after s e counts =
+    let p = λ (t : Slip). has_id known t.parent_id in
+    let one = (next_is known before s (sym e)).parent in
     counts p ∙ rw one refl
 
 -- one more block of the history brings its children
-pub linked_more : (held : List Slip) (s : Slip) (waiting : List Slip) → has_id held s.id ≡ false → linked_in (s ∷ held) waiting ≡ linked_in held waiting + children_in waiting s.id
-linked_more held s [] fresh = omega arith
-linked_more held s (t ∷ ts) fresh =
-    let all = count_first (λ (x : Slip). has_id (s ∷ held) x.parent_id) t ts in
-    let old = count_first (λ (x : Slip). has_id held x.parent_id) t ts in
+pub linked_more : (known : List Slip) (s : Slip) (waiting : List Slip) → has_id known s.id ≡ false → linked_in (s ∷ known) waiting ≡ linked_in known waiting + children_in waiting s.id
+linked_more known s [] fresh = omega arith
+linked_more known s (t ∷ ts) fresh =
+    let all = count_first (λ (x : Slip). has_id (s ∷ known) x.parent_id) t ts in
+    let old = count_first (λ (x : Slip). has_id known x.parent_id) t ts in
     let new = one_child t ts s.id in
-    let here : cond (has_id (s ∷ held) t.parent_id) 1 0 ≡ cond (has_id held t.parent_id) 1 0 + cond (same_id t.parent_id s.id) 1 0 =
+    let here : cond (has_id (s ∷ known) t.parent_id) 1 0 ≡ cond (has_id known t.parent_id) 1 0 + cond (same_id t.parent_id s.id) 1 0 =
     elim (cases_Bool (same_id s.id t.parent_id)) [
       | inl same ↦ rw (same, swap_true s.id t.parent_id same, ← (same_id-true s.id t.parent_id same), fresh) (omega arith)
       | inr other ↦ rw (other, swap_ids s.id t.parent_id other) (omega arith)
     ] in
-    omega (arith, all, old, new, here, linked_more held s ts fresh)
+    omega (arith, all, old, new, here, linked_more known s ts fresh)

@@ -24,24 +24,24 @@ slip_at_read ws i w lt e = slip_at_slices ws i ∙ ap (option_map (λ (w : Waite
 pub slip_at_got : (ws : List Waiter) (i : ℕ) (d : Waiter) → i < length ws → slip_at (waiting_of ws) i ≡ Some (get_or ws i d).slip
 slip_at_got ws i d lt = slip_at_slices ws i ∙ ap (option_map (λ (w : Waiter). w.slip)) (slice_get-get_or ws i d lt)
 
-next_more : (held : List Slip) (ws : List Waiter) (i : ℕ) (w : Waiter) (b : Bool) → i < length ws → w ≡ get_or ws i w → has_id held w.slip.parent_id ≡ b
-    → next_waiting held (waiting_of (take (i + 1) ws)) ≡ cond b (lesser (next_waiting held (waiting_of (take i ws))) w.slip) (next_waiting held (waiting_of (take i ws)))
-next_more held ws i w true lt e h = ap (next_waiting held) (turned_more (λ (w : Waiter). w.slip) ws i w lt e) ∙ rw h refl
-next_more held ws i w false lt e h = ap (next_waiting held) (turned_more (λ (w : Waiter). w.slip) ws i w lt e) ∙ rw h refl
+next_more : (known : List Slip) (ws : List Waiter) (i : ℕ) (w : Waiter) (b : Bool) → i < length ws → w ≡ get_or ws i w → has_id known w.slip.parent_id ≡ b
+    → next_waiting known (waiting_of (take (i + 1) ws)) ≡ cond b (lesser (next_waiting known (waiting_of (take i ws))) w.slip) (next_waiting known (waiting_of (take i ws)))
+next_more known ws i w true lt e h = ap (next_waiting known) (turned_more (λ (w : Waiter). w.slip) ws i w lt e) ∙ rw h refl
+next_more known ws i w false lt e h = ap (next_waiting known) (turned_more (λ (w : Waiter). w.slip) ws i w lt e) ∙ rw h refl
 
--- a block whose parent is held may be the least so far
-pub next_linked : (held : List Slip) (ws : List Waiter) (i : ℕ) (w : Waiter) (best : Option ℕ) (r : ℕ) → i < length ws → w ≡ get_or ws i w → has_id held w.slip.parent_id ≡ true
-    → slip_of (waiting_of ws) best ≡ next_waiting held (waiting_of (take i ws))
+-- a block whose parent is known may be the least so far
+pub next_linked : (known : List Slip) (ws : List Waiter) (i : ℕ) (w : Waiter) (best : Option ℕ) (r : ℕ) → i < length ws → w ≡ get_or ws i w → has_id known w.slip.parent_id ≡ true
+    → slip_of (waiting_of ws) best ≡ next_waiting known (waiting_of (take i ws))
     → ((s : Slip) → slip_at (waiting_of ws) i ≡ Some s → slip_at (waiting_of ws) r ≡ lesser (slip_of (waiting_of ws) best) s)
-    → slip_at (waiting_of ws) r ≡ next_waiting held (waiting_of (take (i + 1) ws))
-next_linked held ws i w best r lt e h inv less =
-    less w.slip (slip_at_read ws i w lt e) ∙ ap (λ o. lesser o w.slip) inv ∙ sym (next_more held ws i w true lt e h)
+    → slip_at (waiting_of ws) r ≡ next_waiting known (waiting_of (take (i + 1) ws))
+next_linked known ws i w best r lt e h inv less =
+    less w.slip (slip_at_read ws i w lt e) ∙ ap (λ o. lesser o w.slip) inv ∙ sym (next_more known ws i w true lt e h)
 
 -- another is passed over
-pub next_passed : (held : List Slip) (ws : List Waiter) (i : ℕ) (w : Waiter) (best : Option ℕ) → i < length ws → w ≡ get_or ws i w → has_id held w.slip.parent_id ≡ false
-    → slip_of (waiting_of ws) best ≡ next_waiting held (waiting_of (take i ws))
-    → slip_of (waiting_of ws) best ≡ next_waiting held (waiting_of (take (i + 1) ws))
-next_passed held ws i w best lt e h inv = inv ∙ sym (next_more held ws i w false lt e h)
+pub next_passed : (known : List Slip) (ws : List Waiter) (i : ℕ) (w : Waiter) (best : Option ℕ) → i < length ws → w ≡ get_or ws i w → has_id known w.slip.parent_id ≡ false
+    → slip_of (waiting_of ws) best ≡ next_waiting known (waiting_of (take i ws))
+    → slip_of (waiting_of ws) best ≡ next_waiting known (waiting_of (take (i + 1) ws))
+next_passed known ws i w best lt e h inv = inv ∙ sym (next_more known ws i w false lt e h)
 
 pub bytes_more : (ws : List Waiter) (i : ℕ) (w : Waiter) → i < length ws → w ≡ get_or ws i w → room_bytes (slips_of (drop i ws)) ≡ w.slip.length + room_bytes (slips_of (drop (i + 1) ws))
 bytes_more ws i w lt e = ap (λ l. room_bytes (slips_of l)) (drop_more ws i w lt) ∙ ap (λ (x : Waiter). x.slip.length + room_bytes (slips_of (drop (i + 1) ws))) (sym e)

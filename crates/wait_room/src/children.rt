@@ -15,7 +15,8 @@ use std::collections::HashMap;
 pub struct Children {
     /// How many there are.
     pub count: u64,
-    /// The id of the one that came last. It may be gone while others wait.
+    /// The id of the one that came last: a hint, for which no clause speaks. It may be gone while
+    /// others wait.
     pub latest: Id,
 }
 
@@ -29,7 +30,8 @@ pub fn count_children(children: &HashMap<Id, Children>, parent: &Id) -> u64
     }
 }
 
-/// The id of the latest child of the id. It may be gone while others wait.
+/// The id of the latest child of the id. It is a hint and has no clause: any id would do, since who
+/// takes it looks at the block before it is used. It may be gone while others wait.
 pub fn latest_child<'a>(children: &'a HashMap<Id, Children>, parent: &Id) -> Option<&'a Id> {
     match children.get(parent) {
         Some(found) => Some(&found.latest),

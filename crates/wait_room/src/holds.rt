@@ -6,7 +6,7 @@ ghost use Rattle.chain_model.specs.Ancestry.{has_id};
 
 use block_record::Id;
 
-/// A history that can be asked for ids. Contracts see its blocks.
+/// A history that can be asked whether an id is known. Contracts see its blocks.
 pub trait Holds {
     ghost history: { Self → List SlipOf };
 

@@ -204,77 +204,77 @@ impl WaitRoom {
         Ok(())
     }
 
-    /// Takes out, of the blocks whose parents are held, the one with the least number, among equals
+    /// Takes out, of the blocks whose parents are known, the one with the least number, among equals
     /// the earliest.
-    pub fn take_next<H: Holds>(&mut self, held: &H) -> Option<(Slip, Option<Arc<Block>>)>
+    pub fn take_next<H: Holds>(&mut self, known: &H) -> Option<(Slip, Option<Arc<Block>>)>
         ensures next { option_map (λ p. p.0) result
-            ≡ next_waiting (H.history held.now) self.old.waiting }
+            ≡ next_waiting (H.history known.now) self.old.waiting }
         ensures own { IfSome result (λ p. IfSome p.1 (λ b. p.0 ≡ slip_of_block b.value)) }
         ensures block { IfSome result
             (λ p. find_block self.old p.0.id ≡ Some (option_map (λ b. b.value) p.1)) }
         ensures room { self.new
-            ≡ room_without self.old (next_waiting (H.history held.now) self.old.waiting) }
+            ≡ room_without self.old (next_waiting (H.history known.now) self.old.waiting) }
         ensures kept { AreKept self.old → AreKept self.new }
         ensures given { AreKept self.old → IfSome result (λ p. IsSome p.1) }
     {
-        let at = least_linked(self.waiters.as_slice(), held)?;
+        let at = least_linked(self.waiters.as_slice(), known)?;
         Some(self.take_at(at))
     }
 
-    /// The same as `take_next`, for a caller that knows how many of the blocks have their parents
-    /// held. Where it is one block, and it was the last to wait for the id, nothing is scanned.
+    /// The same as `take_next`, for a caller that knows how many of the blocks have known parents.
+    /// Where it is one block, and it was the last to wait for the id, nothing is scanned.
     pub fn take_linked<H: Holds>(
         &mut self,
-        held: &H,
+        known: &H,
         linked: u64,
         parent: &Id,
     ) -> Option<(Slip, Option<Arc<Block>>)>
-        requires { linked ≡ linked_in (H.history held.now) self.old.waiting }
+        requires { linked ≡ linked_in (H.history known.now) self.old.waiting }
         ensures next { option_map (λ p. p.0) result
-            ≡ next_waiting (H.history held.now) self.old.waiting }
+            ≡ next_waiting (H.history known.now) self.old.waiting }
         ensures own { IfSome result (λ p. IfSome p.1 (λ b. p.0 ≡ slip_of_block b.value)) }
         ensures block { IfSome result
             (λ p. find_block self.old p.0.id ≡ Some (option_map (λ b. b.value) p.1)) }
         ensures room { self.new
-            ≡ room_without self.old (next_waiting (H.history held.now) self.old.waiting) }
+            ≡ room_without self.old (next_waiting (H.history known.now) self.old.waiting) }
         ensures kept { AreKept self.old → AreKept self.new }
         ensures given { AreKept self.old → IfSome result (λ p. IsSome p.1) }
         ensures left { IfSome result
-            (λ _. linked ≡ linked_in (H.history held.now) self.new.waiting + 1) }
+            (λ _. linked ≡ linked_in (H.history known.now) self.new.waiting + 1) }
         ensures none { IfNone result (linked ≡ 0) }
     {
-        let at = self.find_linked(held, linked, parent)?;
+        let at = self.find_linked(known, linked, parent)?;
         Some(self.take_at(at))
     }
 
-    /// Where the next block stands, of `linked` blocks whose parents are held.
-    fn find_linked<H: Holds>(&self, held: &H, linked: u64, parent: &Id) -> Option<usize>
-        requires { linked ≡ linked_in (H.history held.now) self.now.waiting }
+    /// Where the next block stands, of `linked` blocks whose parents are known.
+    fn find_linked<H: Holds>(&self, known: &H, linked: u64, parent: &Id) -> Option<usize>
+        requires { linked ≡ linked_in (H.history known.now) self.now.waiting }
         ensures least { slip_of self.now.waiting result
-            ≡ next_waiting (H.history held.now) self.now.waiting }
+            ≡ next_waiting (H.history known.now) self.now.waiting }
         ensures range { IfSome result (λ at. at < length self.now.waiting) }
     {
         if linked == 0 {
             return None;
         }
         if linked == 1 {
-            if let Some(at) = self.find_child(held, parent) {
+            if let Some(at) = self.find_child(known, parent) {
                 return Some(at);
             }
         }
-        least_linked(self.waiters.as_slice(), held)
+        least_linked(self.waiters.as_slice(), known)
     }
 
-    /// Where the latest child of the id stands, if its parent is held: no other block's is.
-    fn find_child<H: Holds>(&self, held: &H, parent: &Id) -> Option<usize>
-        requires { linked_in (H.history held.now) self.now.waiting ≡ 1 }
+    /// Where the latest child of the id stands, if its parent is known: no other block's is.
+    fn find_child<H: Holds>(&self, known: &H, parent: &Id) -> Option<usize>
+        requires { linked_in (H.history known.now) self.now.waiting ≡ 1 }
         ensures least { IfSome result (λ at. slip_at self.now.waiting at
-            ≡ next_waiting (H.history held.now) self.now.waiting) }
+            ≡ next_waiting (H.history known.now) self.now.waiting) }
         ensures range { IfSome result (λ at. at < length self.now.waiting) }
     {
         let latest = latest_child(&self.children, parent)?;
         let at = self.waiters.get_index_of(latest)?;
-        only_linked(self.waiters.as_slice(), held, at)
+        only_linked(self.waiters.as_slice(), known, at)
     }
 
     /// Takes out the block at a place.

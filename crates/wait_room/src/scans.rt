@@ -13,31 +13,31 @@ use crate::waiters::Waiter;
 use block_record::Slip;
 use indexmap::IndexSet;
 
-/// Of the blocks whose parents are held, where the one with the least number stands, among equals
+/// Of the blocks whose parents are known, where the one with the least number stands, among equals
 /// the earliest.
-pub fn least_linked<H: Holds>(waiters: &[Waiter], held: &H) -> Option<usize>
+pub fn least_linked<H: Holds>(waiters: &[Waiter], known: &H) -> Option<usize>
     ensures least { slip_of (waiting_of waiters.now) result
-        ≡ next_waiting (H.history held.now) (waiting_of waiters.now) }
+        ≡ next_waiting (H.history known.now) (waiting_of waiters.now) }
     ensures range { IfSome result (λ at. at < length waiters.now) }
 {
     let mut best = None;
     for i in 0..waiters.len() {
-        if held.holds(&waiters[i].slip.parent_id) {
+        if known.holds(&waiters[i].slip.parent_id) {
             best = Some(lesser_of(waiters, best, i));
         }
     }
     best
 }
 
-/// The block at a place where its parent is held: it is the only one.
-pub fn only_linked<H: Holds>(waiters: &[Waiter], held: &H, at: usize) -> Option<usize>
+/// The block at a place where its parent is known: it is the only one.
+pub fn only_linked<H: Holds>(waiters: &[Waiter], known: &H, at: usize) -> Option<usize>
     requires range { at < length waiters.now }
-    requires one { linked_in (H.history held.now) (waiting_of waiters.now) ≡ 1 }
+    requires one { linked_in (H.history known.now) (waiting_of waiters.now) ≡ 1 }
     ensures least { IfSome result (λ found. slip_at (waiting_of waiters.now) found
-        ≡ next_waiting (H.history held.now) (waiting_of waiters.now)) }
+        ≡ next_waiting (H.history known.now) (waiting_of waiters.now)) }
     ensures range { IfSome result (λ found. found < length waiters.now) }
 {
-    if !held.holds(&slip_in(waiters, at).parent_id) {
+    if !known.holds(&slip_in(waiters, at).parent_id) {
         return None;
     }
     Some(at)

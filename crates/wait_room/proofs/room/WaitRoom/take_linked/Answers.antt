@@ -14,8 +14,8 @@ returns-clause-given g c = λ kept. found_kept arc_value c.args.self.now.waiting
 
 pub returns-clause-left : goal.returns-clause-left
 returns-clause-left g c =
-    c.requires ∙ linked_taken (g.H.Holds.history c.args.held.now) c.args.self.now.waiting c.take_at.new.self.waiting c.take_at.result.0 (sym c.take_at.ensures.slip ∙ c.in_ok-at.ensures.least) c.take_at.ensures.counts
+    c.requires ∙ linked_taken (g.H.Holds.history c.args.known.now) c.args.self.now.waiting c.take_at.new.self.waiting c.take_at.result.0 (sym c.take_at.ensures.slip ∙ c.in_ok-at.ensures.least) c.take_at.ensures.counts
 
 pub returns-in_err-at-clause-none : goal.returns-in_err-at-clause-none
 returns-in_err-at-clause-none g c =
-    rw c.from_residual.ensures (c.requires ∙ none_linked (g.H.Holds.history c.args.held.now) c.args.self.now.waiting (sym c.in_err-at.ensures.least))
+    rw c.from_residual.ensures (c.requires ∙ none_linked (g.H.Holds.history c.args.known.now) c.args.self.now.waiting (sym c.in_err-at.ensures.least))
