@@ -1,5 +1,5 @@
 -- What an answer to a look says.
-use Rattle.std.specs.Prelude.{ℕ, ◌≡◌, ◌||◌, Bool, not, nat_lt, List, length, if◌then◌else◌, Option, None, Some, Result, Ok, Err}
+use Rattle.std.specs.Prelude.{ℕ, ◌≡◌, ◌<◌, ◌^◌, ◌||◌, Bool, not, nat_lt, List, length, if◌then◌else◌, Option, None, Some, Result, Ok, Err}
 use Rattle.block_record.specs.declared.blocks.Slip.{Slip}
 use Rattle.block_record.specs.declared.blocks.BlockRef.{BlockRef}
 use Rattle.chain_model.specs.Places.{PlaceFits}
@@ -10,7 +10,7 @@ use Rattle.step_cursor.specs.declared.cursor.MisfitField.{MisfitField}
 use Rattle.step_cursor.specs.declared.cursor.MisfitField.TheVariants as field
 use Rattle.relay_model.specs.Worlds.{World}
 use Rattle.relay_model.specs.Looks.{Position as Standing, Start, At, Look as Said, Batch, NotYet, Done, Closing, Unknown, Misfit, StopBelow, is_ahead, is_final_by, is_none, look_idle}
-use Rattle.fork_db.specs.Batches.{IsGiven}
+use Rattle.fork_db.specs.Batches.{IsGiven, step_total}
 use Rattle.relay_look.specs.declared.answers.Look.{Look}
 use Rattle.relay_look.specs.declared.answers.Look.TheVariants as look
 use Rattle.relay_look.specs.declared.answers.LookFault.{LookFault}
@@ -36,6 +36,14 @@ HasBatchOf newest r (Ok (look.NotYet len)) = Unit {0}
 HasBatchOf newest r (Ok (look.Done len)) = Unit {0}
 HasBatchOf newest r (Ok (look.Closing len)) = Unit {0}
 HasBatchOf newest r (Err e) = Unit {0}
+
+-- a batch that is answered has fewer than 2 ^ 64 steps, by its counts
+abbrev pub HasFewSteps : Result Look LookFault → Type 0
+HasFewSteps (Ok (look.Batch b)) = step_total b < 2 ^ 64
+HasFewSteps (Ok (look.NotYet len)) = Unit {0}
+HasFewSteps (Ok (look.Done len)) = Unit {0}
+HasFewSteps (Ok (look.Closing len)) = Unit {0}
+HasFewSteps (Err e) = Unit {0}
 
 -- the position as the rules have it
 abbrev pub position_of : Position → Standing

@@ -31,7 +31,7 @@ pub enum Look {
 /// Why a look was refused.
 #[derive(Debug, Drop)]
 pub enum LookFault {
-    /// The cursor names a block that is not held, the first of its block, end and lib.
+    /// The cursor names a block that is not known, the first of its block, end and lib.
     Unknown { id: Id },
     /// The cursor does not fit the history; the first field that is wrong.
     Misfit { field: MisfitField },

@@ -23,7 +23,7 @@ pub fn is_ahead(run: u64, len: u64, tail: &Option<Tail>) -> bool
     }
 }
 
-/// The first of the cursor's block, end and lib that is not held.
+/// The first of the cursor's block, end and lib that is not known.
 pub fn unknown<'a>(db: &ForkDb, cursor: &'a Cursor) -> Option<&'a Id>
     ensures { option_copied result ≡ unknown_in db.now.history cursor.now }
 {
@@ -36,7 +36,7 @@ pub fn unknown<'a>(db: &ForkDb, cursor: &'a Cursor) -> Option<&'a Id>
     }
 }
 
-/// The id of a block, where it is named and not held.
+/// The id of a block, where it is named and not known.
 fn unknown_ref<'a>(db: &ForkDb, block: &'a Option<BlockRef>) -> Option<&'a Id>
     ensures { option_copied result
         ≡ find (λ id. not (has_id db.now.history id)) (id_of block.now) }
@@ -79,7 +79,7 @@ fn seen_fits(db: &ForkDb, run: u64, tail: &Option<Tail>) -> Option<MisfitField>
     }
 }
 
-/// Whether the end is there, and held with its number.
+/// Whether the end is there, and known with its number.
 fn end_fits(db: &ForkDb, end: &Option<BlockRef>) -> bool
     ensures { result ≡ end_fits_in db.now.history end.now }
 {
@@ -89,7 +89,7 @@ fn end_fits(db: &ForkDb, end: &Option<BlockRef>) -> bool
     }
 }
 
-/// Whether the lib is there, held with its number, final, and on the path of the end.
+/// Whether the lib is there, known with its number, final, and on the path of the end.
 fn lib_fits(db: &ForkDb, end: &Option<BlockRef>, lib: &Option<BlockRef>) -> bool
     ensures { result ≡ lib_fits_in db.now.history end.now lib.now }
 {

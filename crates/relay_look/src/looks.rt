@@ -8,7 +8,7 @@ ghost use Rattle.chain_model.specs.Places.{PlaceFits};
 ghost use Rattle.relay_model.specs.Looks.{is_final_by as is_final_by_in, look_cursor as look_cursor_in, look_from as look_from_in, look_idle, look_known as look_known_in, look_open as look_open_in, look_start as look_start_in, looked, unknown as unknown_in};
 ghost use Rattle.relay_model.specs.Worlds.{World};
 ghost use Rattle.fork_db.specs.Batches.{IsGiven};
-ghost use Rattle.relay_look.specs.Answers.{FitsAt, HasBatchOf, IsLook, LooksAt, Shows, idle_or_done, position_of, sends, stop_passed as stop_passed_in};
+ghost use Rattle.relay_look.specs.Answers.{FitsAt, HasBatchOf, HasFewSteps, IsLook, LooksAt, Shows, idle_or_done, position_of, sends, stop_passed as stop_passed_in};
 
 use crate::answers::{Look, LookFault, Position};
 use crate::cursors::{is_ahead, misfit, unknown};
@@ -35,6 +35,7 @@ pub fn look(
     ensures said { (w : World) → LooksAt w db.now.history run is_closed
         → IsLook (looked w request.now (position_of position.now)) result }
     ensures given { HasBatchOf db.now.history request.now result }
+    ensures few { HasFewSteps result }
 {
     match position {
         Position::Start => look_start(db, run, is_closed, request),
@@ -47,6 +48,7 @@ fn look_start(db: &ForkDb, run: u64, is_closed: bool, request: &Request) -> Resu
     ensures said { (w : World) → LooksAt w db.now.history run is_closed
         → IsLook (look_start_in w request.now request.now.cursor) result }
     ensures given { HasBatchOf db.now.history request.now result }
+    ensures few { HasFewSteps result }
 {
     match &request.cursor {
         Some(cursor) => look_cursor(db, run, is_closed, request, cursor),
@@ -59,6 +61,7 @@ fn look_open(db: &ForkDb, is_closed: bool, request: &Request) -> Result<Look, Lo
     ensures said { (w : World) → Shows w db.now.history is_closed
         → IsLook (look_open_in w request.now w.history) result }
     ensures given { HasBatchOf db.now.history request.now result }
+    ensures few { HasFewSteps result }
 {
     let len = db.len();
     if len == 0 {
@@ -79,6 +82,7 @@ fn look_cursor(
     ensures said { (w : World) → LooksAt w db.now.history run is_closed
         → IsLook (look_cursor_in w request.now cursor.now) result }
     ensures given { HasBatchOf db.now.history request.now result }
+    ensures few { HasFewSteps result }
 {
     let len = db.len();
     if is_ahead(run, len, &cursor.tail) && !is_closed {
@@ -98,6 +102,7 @@ fn look_known(
     ensures said { (w : World) → LooksAt w db.now.history run is_closed
         → IsLook (look_known_in w request.now cursor.now (unknown_in w.history cursor.now)) result }
     ensures given { HasBatchOf db.now.history request.now result }
+    ensures few { HasFewSteps result }
 {
     if let Some(id) = unknown(db, cursor) {
         let id = id.clone()?;
@@ -121,7 +126,9 @@ fn look_from(
     ensures said { (w : World) → Shows w db.now.history is_closed
         → IsLook (look_from_in is_first w request.now place.now) result }
     ensures given { HasBatchOf db.now.history request.now result }
+    ensures few { HasFewSteps result }
 {
+    let len = db.len();
     if let Some(end) = stop_passed(request.stop, &place.end) {
         return Err(LookFault::StopBelow { end });
     }
@@ -129,7 +136,7 @@ fn look_from(
     if is_sent(is_first, db.step_count(&batch)) {
         return Ok(Look::Batch(batch));
     }
-    Ok(without_steps(db, is_closed, request.stop))
+    Ok(without_steps(db, len, is_closed, request.stop))
 }
 
 /// Whether a batch with so many steps is an answer.
@@ -171,12 +178,13 @@ fn batch_by<L: Ledger>(
 }
 
 /// The answer where there are no steps.
-fn without_steps(db: &ForkDb, is_closed: bool, stop: Option<u64>) -> Look
+fn without_steps(db: &ForkDb, len: u64, is_closed: bool, stop: Option<u64>) -> Look
+    requires { len ≡ length db.now.history }
     ensures said { (w : World) → Shows w db.now.history is_closed
         → IsLook (idle_or_done w stop) (Ok result) }
     ensures given { (r : RequestOf) → HasBatchOf db.now.history r (Ok result) }
+    ensures few { HasFewSteps (Ok result) }
 {
-    let len = db.len();
     if is_final_by(db, stop) {
         Look::Done { len }
     } else {
@@ -199,6 +207,7 @@ fn idle(len: u64, is_closed: bool) -> Look
     ensures said { (w : World) → len ≡ length w.history → w.closed ≡ is_closed
         → IsLook (look_idle w) (Ok result) }
     ensures given { (newest : List SlipOf) (r : RequestOf) → HasBatchOf newest r (Ok result) }
+    ensures few { HasFewSteps (Ok result) }
 {
     if is_closed {
         Look::Closing { len }

@@ -29,7 +29,7 @@ pub fn is_known(db: &ForkDb, id: &Id) -> bool
     db.find(id).is_some()
 }
 
-/// Whether the block is held, with its number.
+/// Whether the block is known, with its number.
 pub fn is_held(db: &ForkDb, block: &BlockRef) -> bool
     ensures { result ≡ is_held_in db.now.history block.now }
 {
