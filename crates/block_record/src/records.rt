@@ -219,20 +219,21 @@ fn after_digest<'a>(
     total: usize,
     form: Form,
     digest: &[u8; 32],
-    bytes: &'a [u8],
+    left: &'a [u8],
 ) -> Result<&'a [u8], RecordFault>
     ensures { Gives (λ rest. (digest.now, rest.now)) result
-        (read total (digest_of (version_number form) digest.now) bytes.now) }
+        (read total (digest_of (version_number form) digest.now) left.now) }
 {
     if let Form::Old = form {
-        return Ok(bytes);
+        return Ok(left);
     }
-    if bytes.len() < 32 {
-        return Err(bad(total, bytes));
+    let fault = bad(total, left);
+    if left.len() < 32 {
+        return Err(fault);
     }
-    let (front, rest) = bytes.split_at(32);
+    let (front, rest) = left.split_at(32);
     if front != digest.as_slice() {
-        return Err(bad(total, bytes));
+        return Err(fault);
     }
     Ok(rest)
 }

@@ -1,23 +1,19 @@
 -- What parsing a text of digits says of the text of a number.
-use Rattle.std.proofs.Common.{not, arith, ◌≡◌, ◌≢◌, ◌<◌, ◌^◌, zero, suc, inl, inr, ℕ, List, length, Result, Ok, Err, IfSome, IfNone, sym, subst, ap, refl, ◌∙◌, true, false, ◌&&◌, nat_lt, Option, Some, None, get_or}
-use Rattle.std.specs.Result.{result_ok}
+use Rattle.std.proofs.Common.{not, arith, ◌≡◌, ◌≢◌, ◌<◌, ◌≤◌, ◌+◌, ◌-◌, ◌*◌, ◌^◌, cond, Bool, nat_le, [], ◌∷◌, zero, suc, inl, inr, ℕ, List, length, IfSome, IfNone, sym, ap, refl, ◌∙◌, true, false, ◌&&◌, nat_lt, Option, Some, None, get_or}
 use Rattle.std.specs.Fmt.{decimal}
-use Rattle.std.specs.Str.{IsUtf8, all_ascii_digits}
-use Rattle.std.specs.Prelude.{slice_index, ◌==◌}
+use Rattle.std.specs.Str.{all_ascii_digits}
+use Rattle.std.specs.Prelude.{slice_index, ◌==◌, option_and_then}
+use Rattle.std.specs.Char.{digit_value, is_ascii_digit}
+use Rattle.std.proofs.lemmas.Str.{digit_value_digit}
 use Rattle.std.proofs.lemmas.Option.{cond_some}
-use Rattle.std.proofs.lemmas.Bool.{lt-ltb, le-ltb, ltb-true, ne_eqb, and_left, and_right, and_parts, and_cases, eqb-false, ltb-false, not-true}
-use Rattle.std.specs.Str.Parse.{AllDigits, digits_value, ParsesUnsigned}
-use Rattle.std.proofs.lemmas.Str.{IsUtf8-from_ascii}
-use Rattle.std.proofs.lemmas.Str.Parse.{IsNumeralModel, numerals_by_value, tells_digits, tells_all_ascii_digits, parse_plain, digit_at}
-use Rattle.std.proofs.lemmas.Fmt.{IsAscii-decimal, decimal-digits_value, parse-decimal, decimal_nonempty, first_decimal, decimal_digit, digits_decimal, digits_value-decimal}
-use Rattle.block_record.specs.Number.{HasOtherForm, HasPlainStart, is_number_text, number_of}
+use Rattle.std.proofs.lemmas.Bool.{lt-ltb, le-ltb, ltb-true, ne_eqb, and_left, and_right, and_parts, and_cases, eqb-false, ltb-false, not-true, eq-eqb, eqb-true, leb-true}
+use Rattle.std.specs.Str.Parse.{AllDigits, digits_value, digits_value_after}
+use Rattle.std.proofs.lemmas.Str.Parse.{IsNumeralModel, numerals_by_value, tells_digits, tells_all_ascii_digits, digit_at}
+use Rattle.std.proofs.lemmas.Fmt.{decimal-digits_value, decimal_nonempty, first_decimal, decimal_digit, digits_decimal, digits_value-decimal}
+use Rattle.block_record.specs.Number.{HasOtherForm, is_number_text, number_of, number_after}
 
 own : IsNumeralModel (AllDigits 10) (digits_value 10)
 own = numerals_by_value _ tells_digits
-
--- the text of a number is a text
-pub IsUtf8-number : (bs : List ℕ) (n : ℕ) → n < 2 ^ 64 → bs ≡ decimal n → IsUtf8 bs
-IsUtf8-number bs n small e = subst IsUtf8 (sym e) (IsUtf8-from_ascii _ (IsAscii-decimal n small))
 
 -- no number has another form
 pub no_other_form : (n : ℕ) → n < 2 ^ 64 → HasOtherForm (decimal n) → ⊥
@@ -29,19 +25,6 @@ no_other_form zero small (inr more) =
     omega (arith, one, more.1)
 no_other_form (suc n) small (inr more) =
     omega (arith, first_decimal (suc n) (omega arith) small, more.0)
-
--- what is read is the text of the number
-pub read_found : {E : Type 0} (bs : List ℕ) (r : Result ℕ E) → ParsesUnsigned 64 10 bs r → HasPlainStart bs → IfSome (result_ok r) (λ n. (n < 2 ^ 64) × (bs ≡ decimal n))
-read_found {E} bs (Ok x) h plain =
-    let f = parse_plain own {E = E} 64 bs (Ok x) h plain.unsigned in
-    let back : decimal (digits_value 10 bs) ≡ bs = decimal-digits_value own bs f.0.0 f.0.1 (λ z. omega (arith, plain.no_zero z, f.0.1)) f.0.2 in
-    (omega (arith, f.0.2, f.1), sym back ∙ ap decimal (sym f.1))
-read_found {E} bs (Err e) h plain = tt
-
--- what is not read is the text of no number
-pub read_none : {E : Type 0} (bs : List ℕ) (r : Result ℕ E) → ParsesUnsigned 64 10 bs r → IfNone (result_ok r) ((n : ℕ) → n < 2 ^ 64 → bs ≢ decimal n)
-read_none {E} bs (Ok x) h = tt
-read_none {E} bs (Err e) h = λ n small is. let read = parse-decimal {E = E} 64 n bs (Err e) small small is h in cc
 
 no_zero_first : (n : ℕ) → n < 2 ^ 64 → (slice_index (decimal n) 0 == 48 && nat_lt 1 (length (decimal n))) ≡ false
 no_zero_first zero small =
@@ -78,11 +61,74 @@ decimal-number_of text n e =
     let back : decimal (digits_value 10 text) ≡ text = decimal-digits_value digits text digit_tests.0 some plain small in
     (omega (arith, small, parts.1), sym back ∙ ap decimal parts.1)
 
--- what is read exactly where it is the text of a number
-pub number_of_read : (text : List ℕ) (r : Option ℕ) → IfSome r (λ n. (n < 2 ^ 64) × (text ≡ decimal n)) → IfNone r ((n : ℕ) → n < 2 ^ 64 → text ≢ decimal n) → r ≡ number_of text
-number_of_read text (Some n) found none = sym (ap number_of found.1 ∙ number_of-decimal n found.0)
-number_of_read text None found none = none_is text none (number_of text) refl
+-- the answer of a call that reads a number
+pub found_decimal : (text : List ℕ) (r : Option ℕ) → r ≡ number_of text → IfSome r (λ n. text ≡ decimal n)
+found_decimal text (Some n) e = (decimal-number_of text n (sym e)).1
+found_decimal text None e = tt
+
+pub none_decimal : (text : List ℕ) (r : Option ℕ) → r ≡ number_of text → IfNone r ((n : ℕ) → n < 2 ^ 64 → text ≢ decimal n)
+none_decimal text (Some n) e = tt
+none_decimal text None e = λ n small is. let clash = e ∙ ap number_of is ∙ number_of-decimal n small in cc
+
+-- more digits make no smaller number
+le-digits_value_after : (n : ℕ) (ds : List ℕ) → n ≤ digits_value_after 10 n ds
+le-digits_value_after n [] = omega arith
+le-digits_value_after n (c ∷ cs) = omega (arith, le-digits_value_after (n * 10 + digit_value c) cs)
+
+-- the value of digits after a number, where they are digits and it has 64 bits
+abbrev value_after : ℕ → List ℕ → Option ℕ
+value_after n text = cond (all_ascii_digits text && nat_lt (digits_value_after 10 n text) (2 ^ 64)) (Some (digits_value_after 10 n text)) None
+
+-- one digit, and those after it
+value_after-size : (n d v : ℕ) (cs : List ℕ) (fits : Bool) → nat_lt (n * 10 + d) (2 ^ 64) ≡ fits → d ≡ v → (n * 10 + d < 2 ^ 64 → number_after (n * 10 + d) cs ≡ value_after (n * 10 + d) cs)
+    → option_and_then (λ m. number_after m cs) (cond fits (Some (n * 10 + d)) None) ≡ value_after (n * 10 + v) cs
+value_after-size n d v cs true e same rest = rest (ltb-true _ _ e) ∙ ap (λ (k : ℕ). value_after (n * 10 + k) cs) same
+value_after-size n d v cs false e same rest =
+    let wide : nat_lt (digits_value_after 10 (n * 10 + v) cs) (2 ^ 64) ≡ false = le-ltb _ _ (omega (arith, ltb-false _ _ e, same, le-digits_value_after (n * 10 + v) cs)) in
+    rw (and_right (all_ascii_digits cs) _ wide) refl
+
+value_after-digit : (n c : ℕ) (cs : List ℕ) (digit : Bool) → is_ascii_digit c ≡ digit → (n * 10 + (c - 48) < 2 ^ 64 → number_after (n * 10 + (c - 48)) cs ≡ value_after (n * 10 + (c - 48)) cs)
+    → option_and_then (λ m. number_after m cs) (cond (digit && nat_lt (n * 10 + (c - 48)) (2 ^ 64)) (Some (n * 10 + (c - 48))) None)
+    ≡ cond (digit && all_ascii_digits cs && nat_lt (digits_value_after 10 (n * 10 + digit_value c) cs) (2 ^ 64)) (Some (digits_value_after 10 (n * 10 + digit_value c) cs)) None
+value_after-digit n c cs false e rest = refl
+value_after-digit n c cs true e rest =
+    let m = and_parts (nat_le 48 c) (nat_le c 57) e in
+    let same : c - 48 ≡ digit_value c = omega (arith, digit_value_digit c (leb-true 48 c m.0, leb-true c 57 m.1)) in
+    value_after-size n (c - 48) (digit_value c) cs (nat_lt (n * 10 + (c - 48)) (2 ^ 64)) refl same rest
+
+-- reading digit by digit gives that value
+number_after-value : (n : ℕ) (text : List ℕ) → n < 2 ^ 64 → number_after n text ≡ value_after n text
+number_after-value n [] small = let fits : nat_lt n (2 ^ 64) ≡ true = lt-ltb _ _ small in rw fits refl
+number_after-value n (c ∷ cs) small = value_after-digit n c cs (is_ascii_digit c) refl (λ less. number_after-value (n * 10 + (c - 48)) cs less)
+
+-- a text with a first byte, and no zero before more, is read digit by digit
+pub number_of-plain : (text : List ℕ) → 0 < length text → (slice_index text 0 ≡ 48 → length text ≤ 1) → number_after 0 text ≡ number_of text
+unfolding number_of
+number_of-plain text some plain =
+    let one : nat_lt 0 (length text) ≡ true = lt-ltb _ _ some in
+    let two : (slice_index text 0 == 48 && nat_lt 1 (length text)) ≡ false = no_zero (slice_index text 0 == 48) refl in
+    number_after-value 0 text (omega arith) ∙ same (all_ascii_digits text) (nat_lt 0 (length text)) (slice_index text 0 == 48 && nat_lt 1 (length text)) one two
   where
-    none_is : (t : List ℕ) → ((n : ℕ) → n < 2 ^ 64 → t ≢ decimal n) → (o : Option ℕ) → number_of t ≡ o → None ≡ number_of t
-    none_is t never None e = sym e
-    none_is t never (Some n) e = let d = decimal-number_of t n e in absurd (never n d.0 d.1)
+    no_zero : (first : Bool) → (slice_index text 0 == 48) ≡ first → (first && nat_lt 1 (length text)) ≡ false
+    no_zero true e = le-ltb _ _ (plain (eqb-true _ _ e))
+    no_zero false e = refl
+
+    same : (a b d : Bool) → b ≡ true → d ≡ false → cond (a && nat_lt (digits_value 10 text) (2 ^ 64)) (Some (digits_value 10 text)) None
+        ≡ cond (a && b && not d && nat_lt (digits_value 10 text) (2 ^ 64)) (Some (digits_value 10 text)) None
+    same true b d eb ed = rw (eb, ed) refl
+    same false b d eb ed = refl
+
+-- no text without a byte, and none with a zero before more, is a number
+pub number_of-empty : (text : List ℕ) → length text ≡ 0 → None ≡ number_of text
+unfolding number_of
+number_of-empty text none =
+    let no : nat_lt 0 (length text) ≡ false = le-ltb _ _ (omega arith) in
+    rw (no, and_right (all_ascii_digits text) false refl) refl
+
+pub number_of-zero : (text : List ℕ) → (slice_index text 0 ≡ 48) × (1 < length text) → None ≡ number_of text
+unfolding number_of
+number_of-zero text front = by_digits (all_ascii_digits text && nat_lt 0 (length text)) (slice_index text 0 == 48) (nat_lt 1 (length text)) (eq-eqb _ _ front.0) (lt-ltb _ _ front.1)
+  where
+    by_digits : (a b d : Bool) → b ≡ true → d ≡ true → None ≡ cond (a && not (b && d) && nat_lt (digits_value 10 text) (2 ^ 64)) (Some (digits_value 10 text)) None
+    by_digits true b d eb ed = rw (eb, ed) refl
+    by_digits false b d eb ed = refl
