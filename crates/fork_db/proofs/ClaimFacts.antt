@@ -1,5 +1,5 @@
 -- What blocks claim, and the final tip.
-use Rattle.std.proofs.Common.{arith, ◌≡◌, ◌<◌, ◌≤◌, ◌==◌, ℕ, Bool, true, false, cond, suc, zero, List, [], ◌∷◌, ◌++◌, length, reverse, Option, Some, None, refl, sym, ◌∙◌, ap, subst, nat_le, find, max, IsSome, IfSome, get_or, ltb, if◌then◌else◌, ◌||◌, IsTrue}
+use Rattle.std.proofs.Common.{arith, ◌≡◌, ◌<◌, ◌≤◌, ◌==◌, ℕ, Bool, true, false, cond, suc, zero, List, [], ◌∷◌, ◌++◌, length, reverse, Option, Some, None, refl, sym, ◌∙◌, ap, subst, nat_le, find, max, IsSome, IfSome, get_or, ltb, if◌then◌else◌, unwrap_or, ◌||◌, IsTrue}
 use Rattle.std.proofs.lemmas.List.{length-reverse, reverse-append, reverse-reverse}
 use Rattle.std.proofs.lemmas.Option.{same_Some, slice_get-get_or}
 use Rattle.std.specs.List.{slice_get, cons_option}
@@ -281,3 +281,9 @@ pub claims_older : (newest : List Slip) (s : Slip) (r : Option ℕ) (c : ℕ) �
 claims_older newest s r c er lt e =
     let le : c < length newest = subst (λ o. IfSome o (λ x. x < length newest)) er lt in
     (slip_at_past s newest c le ∙ sym (e ∙ ap (claim_at (s ∷ newest)) er), omega (arith, le))
+
+-- the place of what a linked block claims, which may be its own
+pub claim_place : (newest : List Slip) (s : Slip) (o : Option ℕ) (at c : ℕ) → claim (s ∷ newest) s ≡ claim_at (s ∷ newest) o → IfSome o (λ x. x < length newest) → at ≡ length newest → c ≡ unwrap_or o at
+    → (slip_at (s ∷ newest) c ≡ claim (s ∷ newest) s) × (c ≤ length newest)
+claim_place newest s None at c e lt ea ec = (claims_itself newest s None c (ec ∙ ea) refl e, omega (arith, ea, ec))
+claim_place newest s (Some x) at c e lt ea ec = claims_older newest s (Some x) c (ap Some (sym ec)) lt e

@@ -1,8 +1,11 @@
 -- Whether a block may come next.
-use Rattle.std.specs.Prelude.{◌==◌, ◌&&◌, Bool, true, nat_lt, List, [], ◌∷◌, if◌then◌else◌, Option, None, Some}
+use Rattle.std.specs.Prelude.{◌==◌, ◌&&◌, Bool, true, nat_lt, List, [], ◌∷◌, if◌then◌else◌, Option, None, Some, Result, Ok, Err}
 use Rattle.block_record.specs.declared.blocks.Slip.{Slip}
 use Rattle.chain_model.specs.Ancestry.{has_id, find_id}
 use Rattle.chain_model.specs.Finality.{claim, final_tip, agrees}
+use Rattle.fork_db.specs.declared.claims.Linked.{Linked}
+use Rattle.fork_db.specs.declared.claims.ChildFault.{ChildFault}
+use Rattle.fork_db.specs.declared.claims.ChildFault.TheVariants as fault
 use Rattle.fork_db.specs.declared.db.Verdict.{Verdict}
 use Rattle.fork_db.specs.declared.db.Verdict.TheVariants as verdict
 
@@ -32,3 +35,9 @@ parent_verdict older s (Some p) = if (p.num == s.parent_num) && nat_lt p.num s.n
 abbrev pub verdict_of : List Slip → Slip → Verdict
 verdict_of [] s = verdict.Fits
 verdict_of (t ∷ older) s = if has_id (t ∷ older) s.id then verdict.IdHeld else parent_verdict (t ∷ older) s (find_id (t ∷ older) s.parent_id)
+
+-- the verdict on a block that is linked, or that is no child of its parent
+abbrev pub verdict_by : Result Linked ChildFault → Verdict
+verdict_by (Ok linked) = verdict.Fits
+verdict_by (Err fault.ParentNumber) = verdict.ParentNumber
+verdict_by (Err fault.Disagrees) = verdict.Disagrees

@@ -13,6 +13,23 @@ use link_rows::Steps;
 use std::marker::Brand;
 use std::sync::ledger::{Blank, Ledger};
 
+/// Where a next block is linked: at its parent, none for the first block, and at the block that it
+/// claims to be final, none where it claims itself.
+#[derive(Clone, Copy, PartialEq, Eq, Debug)]
+pub struct Linked {
+    pub parent: Option<usize>,
+    pub claim: Option<usize>,
+}
+
+/// Why a block may not come next whose id is new and whose parent is there.
+#[derive(Clone, Copy, PartialEq, Eq, Debug)]
+pub enum ChildFault {
+    /// Its parent has another number than it names, or one that is not below its own.
+    ParentNumber,
+    /// What it claims to be final and the final tip are not on one path.
+    Disagrees,
+}
+
 /// Up to which number a block with this lib number claims.
 fn claim_limit(tree: &BlockTree, lib_num: u64) -> u64
     requires { 0 < length tree.now.history }

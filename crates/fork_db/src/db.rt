@@ -5,6 +5,7 @@ ghost use Rattle.std.specs.List.{slice_get, AllByRecursion};
 ghost use Rattle.std.specs.Option.{option_copied, option_map};
 ghost use Rattle.block_record.specs.declared.blocks.Slip.{Slip as SlipOf};
 ghost use Rattle.block_record.specs.Slips.{slip as slip_of_block};
+ghost use Rattle.block_record.specs.SlipRefs.{slip_seen};
 ghost use Rattle.chain_model.specs.Ancestry.{ancestry, find_id, has_id, IsHistory};
 ghost use Rattle.chain_model.specs.Finality.{claim as claim_in, final_tip as final_tip_in, on_path as on_path_in, ClaimsAgree};
 ghost use Rattle.chain_model.specs.declared.places.Mode.{Mode as ModeOf};
@@ -12,20 +13,20 @@ ghost use Rattle.chain_model.specs.Places.{IsAhead, PlaceFits, opening as openin
 ghost use Rattle.chain_model.specs.Steps.{head as head_in, steps_of};
 ghost use Rattle.block_tree.specs.Places.{place_of, slip_at, slip_of, meeting};
 ghost use Rattle.fork_db.specs.Batches.{HasOwnBlock, HoldsWhatIs, IsBatch, IsGiven, WasGiven, item_seen, step_seen};
-ghost use Rattle.fork_db.specs.Claims.{claim_at};
+ghost use Rattle.fork_db.specs.Claims.{IsLinkOf, claim_at};
 ghost use Rattle.fork_db.specs.Forks.{IsAppended};
-ghost use Rattle.fork_db.specs.Verdicts.{verdict_of, fits, parent_verdict};
+ghost use Rattle.fork_db.specs.Verdicts.{verdict_by, verdict_of, fits, parent_verdict};
 
 use crate::batches::{Batch, copy_place, make_batch};
 use crate::chunks::{
     StepAt, StepItem, ancestor_at, count_in, place_after_all, place_after_steps, push_items,
     step_at,
 };
-use crate::claims::{agrees_with_tip, claim_below, later_tip};
+use crate::claims::{ChildFault, Linked, agrees_with_tip, claim_below, later_tip};
 use crate::heads::Heads;
 use crate::held::HeldBlocks;
 use crate::openings::opening;
-use block_record::{Block, Id, Slip};
+use block_record::{Block, Id, Slip, SlipRef};
 use block_tree::{BLOCKS_MAX, BlockTree};
 use chain_model::{Mode, Place};
 use link_rows::Steps;
@@ -378,30 +379,36 @@ impl ForkDb {
         }
         match self.tree.find(&block.parent_id) {
             Some(parent) => {
-                let child = Child {
-                    num: block.num,
-                    parent_num: block.parent_num,
-                    lib_num: block.lib_num,
-                };
-                judge_child(&self.tree, self.tip, parent, child)
+                let slip = SlipRef::of_block(block);
+                verdict_from(judge_child(&self.tree, self.tip, parent, slip))
             }
             None => Verdict::NoParent,
         }
     }
 
-    /// The same for a block by its slip, whose id is new and whose parent stands at a place.
-    pub fn can_append_on(&self, parent: usize, slip: &Slip) -> Verdict
-        requires fresh { has_id self.now.history slip.now.id ≡ false }
-        requires parent { place_of self.now.history slip.now.parent_id ≡ Some parent }
-        ensures { result ≡ verdict_of self.now.history slip.now }
+    /// The same for a block by its slip, whose id is new and whose parent stands at a place: where
+    /// it is linked, if it may come next.
+    pub fn can_append_on(&self, parent: usize, slip: SlipRef) -> Result<Linked, ChildFault>
+        requires fresh { has_id self.now.history (slip_seen slip).id ≡ false }
+        requires parent { place_of self.now.history (slip_seen slip).parent_id ≡ Some parent }
+        ensures verdict { verdict_by result
+            ≡ verdict_of self.now.history (slip_seen slip.entry) }
+        ensures linked { IfOk result (IsLinkOf self.now.history (slip_seen slip.entry)) }
     {
         let _ = self.tree.len();
-        let child = Child {
-            num: slip.num,
-            parent_num: slip.parent_num,
-            lib_num: slip.lib_num,
-        };
-        judge_child(&self.tree, self.tip, parent, child)
+        judge_child(&self.tree, self.tip, parent, slip)
+    }
+
+    /// Where a block is linked that may come next and whose parent's place is known, none for the
+    /// first block. `can_append_on` gives the same.
+    pub fn link(&self, parent: Option<usize>, slip: &Slip) -> Linked
+        requires fits { verdict_of self.now.history slip.now ≡ fits }
+        requires parent { place_of self.now.history slip.now.parent_id ≡ parent }
+        ensures { IsLinkOf self.now.history slip.now result }
+    {
+        let _ = self.tree.len();
+        let claim = older_claim(&self.tree, parent, slip);
+        Linked { parent, claim }
     }
 
     /// For how many more blocks the limit has room.
@@ -464,28 +471,29 @@ impl ForkDb {
     {
         self.reserve(1)?;
         let parent = self.tree.find(&slip.parent_id);
-        Ok(self.append_reserved(slip, block, parent))
+        let linked = self.link(parent, &slip);
+        Ok(self.append_reserved(slip, block, linked))
     }
 
-    /// The same for a block for which there is room and whose parent's place is known: none for the
-    /// first block. It takes no memory.
+    /// The same for a block for which there is room, where it is linked. It takes no memory, and
+    /// looks for neither its parent nor what it claims.
     pub fn append_reserved(
         &mut self,
         slip: Slip,
         block: Option<Arc<Block>>,
-        parent: Option<usize>,
+        linked: Linked,
     ) -> usize
         requires slip { IfSome block (λ b. slip ≡ slip_of_block b.value) }
         requires fits { verdict_of self.old.history slip ≡ fits }
         requires room { 0 < self.old.room }
-        requires parent { place_of self.old.history slip.parent_id ≡ parent }
+        requires linked { IsLinkOf self.old.history slip linked }
         ensures place { result ≡ length self.old.history }
         ensures appended { IsAppended self.old self.new slip (option_map (λ b. b.value) block) }
         ensures room { self.new.room + 1 ≡ self.old.room }
     {
         let at = self.tree.len();
-        let claim = next_claim(&self.tree, parent, &slip);
-        self.tree.push(slip, parent);
+        let claim = claim_place(&self.tree, linked, &slip);
+        self.tree.push(slip, linked.parent);
         self.claims.push_reserved(claim as u32);
         self.held.push(block);
         self.tip = later_tip(&self.tree, self.tip, claim);
@@ -495,17 +503,14 @@ impl ForkDb {
 }
 
 /// The place of what the next block claims, which may be its own.
-fn next_claim(tree: &BlockTree, parent: Option<usize>, slip: &Slip) -> usize
-    requires sound { IsHistory (slip.now ∷ tree.now.history) }
-    requires parent { place_of tree.now.history slip.now.parent_id ≡ parent }
+fn claim_place(tree: &BlockTree, linked: Linked, slip: &Slip) -> usize
+    requires { IsLinkOf tree.now.history slip.now linked }
     ensures value { slip_at (slip.now ∷ tree.now.history) result
         ≡ claim_in (slip.now ∷ tree.now.history) slip.now }
     ensures range { result ≤ length tree.now.history }
 {
-    match older_claim(tree, parent, slip) {
-        Some(claim) => claim,
-        None => tree.len(),
-    }
+    let _ = slip;
+    linked.claim.unwrap_or(tree.len())
 }
 
 /// What the next block claims: a block of the history, or none where it claims itself.
@@ -522,34 +527,45 @@ fn older_claim(tree: &BlockTree, parent: Option<usize>, slip: &Slip) -> Option<u
     }
 }
 
-/// The numbers of a block whose id is new and whose parent is held.
-#[derive(Clone, Copy)]
-struct Child {
-    num: u64,
-    parent_num: u64,
-    lib_num: u64,
-}
-
-/// Whether a block may come next whose id is new and whose parent is held.
-fn judge_child(tree: &BlockTree, tip: usize, parent: usize, block: Child) -> Verdict
+/// Whether a block may come next whose id is new and whose parent stands at a place.
+fn judge_child(
+    tree: &BlockTree,
+    tip: usize,
+    parent: usize,
+    slip: SlipRef,
+) -> Result<Linked, ChildFault>
     requires sound { IsHistory tree.now.history }
     requires tip { tip < length tree.now.history }
     requires tip_is { slip_at tree.now.history tip ≡ final_tip_in tree.now.history }
-    requires parent { parent < length tree.now.history }
-    ensures { (s : SlipOf) → has_id tree.now.history s.id ≡ false
-        → place_of tree.now.history s.parent_id ≡ Some parent
-        → s.num ≡ block.num → s.parent_num ≡ block.parent_num → s.lib_num ≡ block.lib_num
-        → result ≡ parent_verdict tree.now.history s (slip_at tree.now.history parent) }
+    requires fresh { has_id tree.now.history (slip_seen slip).id ≡ false }
+    requires parent { place_of tree.now.history (slip_seen slip).parent_id ≡ Some parent }
+    ensures verdict { verdict_by result ≡ parent_verdict tree.now.history
+        (slip_seen slip.entry) (slip_at tree.now.history parent) }
+    ensures linked { IfOk result (IsLinkOf tree.now.history (slip_seen slip.entry)) }
 {
     let held = tree.slip(parent);
-    if held.num != block.parent_num || held.num >= block.num {
-        return Verdict::ParentNumber;
+    if held.num != slip.parent_num || held.num >= slip.num {
+        return Err(ChildFault::ParentNumber);
     }
-    let claim = claim_below(tree, parent, block.num, block.lib_num);
+    let claim = claim_below(tree, parent, slip.num, slip.lib_num);
     if agrees_with_tip(tree, tip, parent, claim) {
-        Verdict::Fits
+        Ok(Linked {
+            parent: Some(parent),
+            claim,
+        })
     } else {
-        Verdict::Disagrees
+        Err(ChildFault::Disagrees)
+    }
+}
+
+/// The verdict on a block whose id is new and whose parent is there.
+fn verdict_from(judged: Result<Linked, ChildFault>) -> Verdict
+    ensures { result ≡ verdict_by judged }
+{
+    match judged {
+        Ok(_) => Verdict::Fits,
+        Err(ChildFault::ParentNumber) => Verdict::ParentNumber,
+        Err(ChildFault::Disagrees) => Verdict::Disagrees,
     }
 }
 

@@ -19,4 +19,5 @@ mod tests;
 
 pub use batches::Batch;
 pub use chunks::{StepAt, StepItem};
+pub use claims::{ChildFault, Linked};
 pub use db::{ForkDb, ForkFault, Verdict};
