@@ -1,5 +1,5 @@
 -- What a container that was written is read as.
-use Rattle.std.proofs.Common.{◌≡◌, ℕ, ◌+◌, ◌≤◌, ◌<◌, true, false, ◌&&◌, ltb, leb, List, [], ◌∷◌, ◌++◌, length, take, drop, refl, ap, ◌∙◌, arith, length-append, Option, None}
+use Rattle.std.proofs.Common.{◌≡◌, ℕ, ◌+◌, ◌≤◌, ◌<◌, ◌^◌, true, false, ◌&&◌, ltb, leb, List, [], ◌∷◌, ◌++◌, length, take, drop, refl, sym, ap, ◌∙◌, arith, length-append, Option, Some, None}
 use Rattle.std.specs.Option.{option_map}
 use Rattle.std.specs.List.{position, position_or_len, list_all, flat_map, AllByRecursion}
 use Rattle.std.specs.Int.{w32, to_be_bytes}
@@ -7,12 +7,13 @@ use Rattle.std.proofs.lemmas.Bool.{le-ltb, lt-ltb, and_parts, ltb-true, leb-true
 use Rattle.std.proofs.lemmas.List.{take_at, drop_at}
 use Rattle.std.proofs.lemmas.List.Concat.{flat_map-cons}
 use Rattle.std.proofs.lemmas.Nat.{from_be_bytes-to_be_bytes_2, from_be_bytes-to_be_bytes_4}
-use Rattle.block_record.specs.Texts.{is_visible_byte, is_type_text}
+use Rattle.block_record.specs.Texts.{is_visible_byte, is_type_text, IsTypeName}
 use Rattle.dbin_file.specs.declared.faults.DbinFault.{DbinFault}
 use Rattle.dbin_file.specs.declared.faults.DbinFault.TheVariants.{NotDbin}
 use Rattle.dbin_file.specs.Header.{header_text, type_length, type_bytes, length_fault, type_fault, first_of, header_fault, is_hidden}
-use Rattle.dbin_file.specs.Messages.{message_max, message_text, message_length, has_message, Split, split}
-use Rattle.dbin_file.specs.Contents.{Contents, contents, container_text, with_messages, place}
+use Rattle.dbin_file.specs.Messages.{message_max, AreMessages, message_text, message_length, has_message, Split, split}
+use Rattle.dbin_file.specs.Contents.{Contents, contents, container_text, message_place, with_messages, place, rest_fault}
+use Rattle.dbin_file.specs.Reader.{ReaderState, kept, state_of, state_after, resumed}
 use Rattle.dbin_file.specs.Laws.{ContainerIsRead}
 use Rattle.dbin_file.proofs.MessageFacts.{has_from, with_front, split-append, split-whole}
 use Rattle.dbin_file.proofs.PieceFacts.{none_too_long}
@@ -82,19 +83,35 @@ header_is block_type rest is =
       dropped = drop_at (header_text block_type) rest (7 + length block_type) head;
     }
 
-pub container_read : ContainerIsRead
-container_read block_type messages is small =
+-- what a container says
+container_says : (block_type : List ℕ) (messages : List (List ℕ)) → IsTypeName block_type → AreMessages messages
+    → contents (container_text block_type messages) ≡ with_messages (length (container_text block_type messages)) block_type (messages, [])
+container_says block_type messages is small =
     let rest : List ℕ = flat_map message_text messages in
     let text : List ℕ = container_text block_type messages in
     let h = header_is block_type rest is in
-    let c : contents text ≡ with_messages (length text) block_type (messages, []) =
     is_whole text (7 + length block_type) h.good (size_from text (7 + length block_type) h.size)
     ∙ ap (λ (l : List ℕ). with_messages (length text) l (split (drop (7 + length block_type) text))) h.types
     ∙ ap (λ (l : List ℕ). with_messages (length text) block_type (split l)) h.dropped
-    ∙ ap (with_messages (length text) block_type) (messages_split messages small) in
+    ∙ ap (with_messages (length text) block_type) (messages_split messages small)
+
+pub container_read : ContainerIsRead
+container_read block_type messages is small =
+    let c = container_says block_type messages is small in
     record {
       type_is = ap (λ (x : Contents). x.block_type) c;
       messages_are = ap (λ (x : Contents). x.messages) c;
       rest = ap (λ (x : Contents). x.rest) c;
-      fault = ap (λ (x : Contents). x.fault) c ∙ none_too_long (place (length text) []);
+      fault = ap (λ (x : Contents). x.fault) c ∙ none_too_long (place (length (container_text block_type messages)) []);
     }
+
+-- a reader that stands where a message begins was fed what stands before
+pub resumed_is : (block_type : List ℕ) (messages : List (List ℕ)) (at : ℕ) → IsTypeName block_type → AreMessages messages → at ≡ message_place block_type messages → at < 2 ^ 64
+    → resumed block_type at ≡ state_after (container_text block_type messages)
+resumed_is block_type messages at is small here fits =
+    let total = length (container_text block_type messages) in
+    let place_is : at ≡ place total [] = omega (arith, here, fits) in
+    let good : rest_fault (place total []) [] ≡ None = none_too_long (place total []) in
+    ap (resumed block_type) place_is
+    ∙ ap (λ (f : Option DbinFault). let q : ReaderState = record { block_type = Some block_type; fault = f; at = place total []; partial = kept f [] } in q) (sym good)
+    ∙ sym (ap (state_of total) (container_says block_type messages is small))

@@ -10,6 +10,10 @@ use Rattle.dbin_file.specs.Messages.{message_text, message_length, split, Split,
 abbrev pub container_text : List ℕ → List (List ℕ) → List ℕ
 container_text block_type messages = header_text block_type ++ flat_map message_text messages
 
+-- the place in a container of this type where the next message begins after these
+abbrev pub message_place : List ℕ → List (List ℕ) → ℕ
+message_place block_type messages = length (container_text block_type messages)
+
 -- what a text says: its type once the header is whole, the whole messages before the first fault, what follows them, and the first fault
 pub record Contents : Type 0 where
   pub block_type : Option (List ℕ)

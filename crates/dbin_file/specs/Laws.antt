@@ -1,8 +1,7 @@
 -- What a container that was written is read as, as a law.
-use Rattle.std.specs.Prelude.{ℕ, ◌≡◌, ◌≤◌, List, [], length, None, Some}
-use Rattle.std.specs.List.{AllByRecursion}
+use Rattle.std.specs.Prelude.{ℕ, ◌≡◌, List, [], None, Some}
 use Rattle.block_record.specs.Texts.{IsTypeName}
-use Rattle.dbin_file.specs.Messages.{message_max}
+use Rattle.dbin_file.specs.Messages.{AreMessages}
 use Rattle.dbin_file.specs.Contents.{contents, container_text}
 
 -- a text is read as this type and these messages, with nothing after them and no fault
@@ -14,4 +13,4 @@ pub record IsReadAs (text block_type : List ℕ) (messages : List (List ℕ)) : 
 
 -- a container of a type and of messages, none of them too long, is read as these
 abbrev pub ContainerIsRead : Type 0
-ContainerIsRead = (block_type : List ℕ) (messages : List (List ℕ)) → IsTypeName block_type → AllByRecursion (λ m. length m ≤ message_max) messages → IsReadAs (container_text block_type messages) block_type messages
+ContainerIsRead = (block_type : List ℕ) (messages : List (List ℕ)) → IsTypeName block_type → AreMessages messages → IsReadAs (container_text block_type messages) block_type messages

@@ -2,11 +2,16 @@
 use Rattle.std.specs.Prelude.{ℕ, ◌≡◌, IsTrue, zero, suc, ◌+◌, ◌-◌, ◌<◌, ◌≤◌, ◌&&◌, nat_lt, nat_le, Bool, not, List, [], ◌∷◌, ◌++◌, length, take, drop, if◌then◌else◌}
 use Rattle.dbin_file.specs.declared.messages.Begun.{Begun}
 use Rattle.dbin_file.specs.declared.messages.Begun.TheVariants.{Part, Whole, TooLong}
+use Rattle.std.specs.List.{AllByRecursion}
 use Rattle.std.specs.Int.{w32, to_be_bytes, from_be_bytes}
 
 -- the most bytes that a message has
 abbrev pub message_max : ℕ
 message_max = 50_001_024
+
+-- none of these messages has more bytes than a message has
+abbrev pub AreMessages : List (List ℕ) → Type 0
+AreMessages messages = AllByRecursion (λ m. length m ≤ message_max) messages
 
 -- a message in a container
 abbrev pub message_text : List ℕ → List ℕ

@@ -27,6 +27,10 @@ state_of total c = record { block_type = c.block_type; fault = c.fault; at = pla
 abbrev pub state_after : List ℕ → ReaderState
 state_after text = state_of (length text) (contents text)
 
+-- a reader past its header that stands where a message begins
+abbrev pub resumed : List ℕ → ℕ → ReaderState
+resumed block_type at = record { block_type = Some block_type; fault = None; at = at; partial = [] }
+
 -- the messages that a reader past its header finds in what it keeps and a further piece, and what follows them
 abbrev pub found : ReaderState → List ℕ → Split
 found r piece = split (r.partial ++ piece)

@@ -2,10 +2,10 @@
 
 ghost use Rattle.std.specs.Prelude.{◌≡◌, ◌≢◌, ◌++◌, ◌≤◌, ◌<◌, ◌^◌, ℕ, List, Some, None, Err, [], length, IsTrue};
 ghost use Rattle.std.specs.Option.{option_copied, is_some};
-ghost use Rattle.dbin_file.specs.Messages.{IsWithin, is_partial};
-ghost use Rattle.dbin_file.specs.Contents.{contents};
+ghost use Rattle.dbin_file.specs.Messages.{AreMessages, IsWithin, is_partial};
+ghost use Rattle.dbin_file.specs.Contents.{contents, container_text, message_place};
 ghost use Rattle.dbin_file.specs.Header.{IsInHeader};
-ghost use Rattle.dbin_file.specs.Reader.{state_after, end_fault, found, message_fault, with_piece, without_memory, UnlessMem, Answers, GrowsBy, IsRead, IsCutShort, IsCutShortAt};
+ghost use Rattle.dbin_file.specs.Reader.{state_after, resumed, end_fault, found, message_fault, with_piece, without_memory, UnlessMem, Answers, GrowsBy, IsRead, IsCutShort, IsCutShortAt};
 
 use crate::faults::DbinFault;
 use crate::headers::{TYPE_AT, header_fault, header_size};
@@ -60,6 +60,27 @@ impl DbinReader {
         }
     }
 
+    /// A reader that goes on at this place of a container whose messages have this type. A message
+    /// begins there.
+    pub fn resume(alloc: Global, block_type: TypeName, at: u64) -> DbinReader
+        ensures stands { result ≡ resumed block_type at }
+
+        // It is the one that was fed the header and the messages before this place.
+        ensures state { (messages : List (List ℕ)) → AreMessages messages
+            → at ≡ message_place block_type messages
+            → result ≡ state_after (container_text block_type messages) }
+    {
+        // What the bytes of a type are, the clauses of this call say.
+        let _text = block_type.as_bytes();
+        DbinReader {
+            alloc,
+            block_type: Some(block_type),
+            fault: None,
+            at,
+            partial: Vec::new(alloc),
+        }
+    }
+
     /// Reads a further piece of the container, and appends the messages that end in it, up to the
     /// first fault.
     pub fn feed(&mut self, piece: &[u8], out: &mut Vec<Bytes>) -> Result<(), DbinFault>
@@ -106,6 +127,13 @@ impl DbinReader {
         ensures { option_copied result ≡ self.now.block_type }
     {
         self.block_type.as_ref()
+    }
+
+    /// The place of the header or of the message that has begun, or else that of the next message.
+    pub fn place(&self) -> u64
+        ensures { result ≡ self.now.at }
+    {
+        self.at
     }
 
     /// Takes a piece, where there was no fault before.
