@@ -1,3 +1,4 @@
 pub mod Limits
 pub mod StepText
 pub mod Taken
+pub mod Tables

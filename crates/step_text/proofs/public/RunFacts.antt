@@ -1,13 +1,19 @@
--- One more block of a run, taken or refused.
+-- The lines of steps that go on, and one more block of a run, taken or refused.
 use Rattle.std.proofs.Common.{◌≡◌, ◌++◌, ℕ, List, ◌∷◌, Option, None, Some, map, refl, sym, ◌∙◌, ap, append_assoc}
+use Rattle.std.proofs.lemmas.List.{map-append}
+use Rattle.std.proofs.lemmas.List.Concat.{flat_map-append}
 use Rattle.block_record.specs.declared.blocks.Slip.{Slip}
 use Rattle.chain_model.specs.declared.places.Place.{Place}
-use Rattle.chain_model.specs.Steps.{plain_of}
+use Rattle.chain_model.specs.Steps.{BlockStep, plain_of}
 use Rattle.relay_model.specs.Worlds.{World}
 use Rattle.relay_model.specs.Offers.{offered}
 use Rattle.step_text.specs.declared.refusals.Refusal.{Refusal}
-use Rattle.step_text.specs.StepText.{Told, goes_on, place_by, prepend, step_lines, steps_by, tell}
+use Rattle.step_text.specs.StepText.{Told, goes_on, place_by, prepend, step_line, step_lines, steps_by, tell}
 use Rattle.step_text.specs.Taken.{IsTaken}
+
+-- the lines of steps that go on
+pub lines-append : (xs ys : List BlockStep) → step_lines (map plain_of (xs ++ ys)) ≡ step_lines (map plain_of xs) ++ step_lines (map plain_of ys)
+lines-append xs ys = ap step_lines (map-append plain_of xs ys) ∙ flat_map-append step_line (map plain_of xs) (map plain_of ys)
 
 -- a text before two others
 pub prepend_twice : (a b : List ℕ) (t : Told) → prepend a (prepend b t) ≡ prepend (a ++ b) t
