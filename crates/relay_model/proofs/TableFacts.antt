@@ -69,5 +69,6 @@ orders_by_table = record {
   repeats = refl;
   branches = refl;
   waits_on = refl;
+  waits_above = refl;
   opened = refl;
 }

@@ -58,16 +58,16 @@ abbrev pub id_of : Option BlockRef → List (List ℕ)
 id_of None = []
 id_of (Some r) = r.id ∷ []
 
--- the first of block, end and lib that is not held
+-- the first of block, end and lib that is not known
 abbrev pub unknown : List Slip → Cursor → Option (List ℕ)
 unknown newest c = find (λ id. not (has_id newest id)) (c.block.id ∷ (id_of c.place.end ++ id_of c.place.lib))
 
--- whether the end is there and held with its number
+-- whether the end is there and known with its number
 abbrev pub end_fits : List Slip → Option BlockRef → Bool
 end_fits newest None = false
 end_fits newest (Some end) = is_held newest end
 
--- whether the lib is there, held with its number, on the final path and on the path of the end
+-- whether the lib is there, known with its number, on the final path and on the path of the end
 abbrev pub lib_fits : List Slip → Option BlockRef → Option BlockRef → Bool
 lib_fits newest end None = false
 lib_fits newest end (Some lib) = is_held newest lib && has_id (final_ancestry newest) lib.id && has_id (ancestry_at newest end) lib.id
@@ -133,12 +133,12 @@ abbrev pub look_open : World → Request → List Slip → Look
 look_open w r [] = look_idle w
 look_open w r (s ∷ older) = look_from true w r (opening w.history r.start)
 
--- the answer to a cursor whose blocks are held, by the first of its fields that is wrong
+-- the answer to a cursor whose blocks are known, by the first of its fields that is wrong
 abbrev pub look_fitted : World → Request → Cursor → Option MisfitField → Look
 look_fitted w r c (Some f) = Misfit f
 look_fitted w r c None = look_from true w r c.place
 
--- the answer to a cursor, by the first of its blocks that is not held
+-- the answer to a cursor, by the first of its blocks that is not known
 abbrev pub look_known : World → Request → Cursor → Option (List ℕ) → Look
 look_known w r c (Some id) = Unknown id
 look_known w r c None = look_fitted w r c (misfit w.run w.history c)

@@ -34,7 +34,7 @@ num_of (Some s) = s.num
 abbrev pub tip_num : List Slip → ℕ
 tip_num newest = num_of (final_tip newest)
 
--- a conflict of a kind, of an offered block with one that is held
+-- a conflict of a kind, of an offered block with one that is known
 abbrev pub conflict : ConflictKind → Slip → Slip → Clash
 conflict why held offered = record { kind = why; held = held; offered = offered }
 
@@ -53,7 +53,7 @@ abbrev pub parent_clash : List Slip → Slip → Option Slip → Option Clash
 parent_clash newest s None = None
 parent_clash newest s (Some p) = if p.num == s.parent_num then finality_clash newest s (final_tip newest) else Some (conflict kind.Parent p s)
 
--- how a block whose parent is held contradicts the history: its parent's number differs, or its claim and the tip disagree
+-- how a block whose parent is known contradicts the history: its parent's number differs, or its claim and the tip disagree
 abbrev pub clash : List Slip → Slip → Option Clash
 clash newest s = parent_clash newest s (find_id newest s.parent_id)
 
@@ -63,22 +63,22 @@ judge_limit w s =
     let need = 1 + descendants w.waiting s.id in
     if nat_le (length w.history + need) w.limits.history then verdict.Admitted else verdict.HistoryFull need
 
--- a block whose parent is held, by how it contradicts the history
+-- a block whose parent is known, by how it contradicts the history
 abbrev pub judge_clash : World → Slip → Option Clash → Verdict
 judge_clash w s None = judge_limit w s
 judge_clash w s (Some c) = verdict.Conflict c
 
--- a block above the root, by its parent, where that is held
+-- a block above the root, by its parent, where that is known
 abbrev pub judge_parent : World → Slip → Option Slip → Verdict
 judge_parent w s None = if nat_le s.num (tip_num w.history) then verdict.Stale else if has_room w.limits w.waiting s then verdict.Waiting else verdict.WaitFull
 judge_parent w s (Some p) = judge_clash w s (clash w.history s)
 
--- a block that is not held and not too low, by whether there is a history yet
+-- a block that is not known and not too low, by whether there is a history yet
 abbrev pub judge_linked : World → Slip → List Slip → Verdict
 judge_linked w s [] = judge_limit w s
 judge_linked w s (t ∷ older) = if nat_le s.num (root_num w.history) then verdict.Stale else judge_parent w s (find_id w.history s.parent_id)
 
--- a block whose id is held, or not
+-- a block whose id is known, in the room or in the history, or not
 abbrev pub judge_held : World → Slip → Option Slip → Verdict
 judge_held w s (Some h) = if same_slip h s then verdict.Duplicate else verdict.Conflict (conflict kind.Id h s)
 judge_held w s None = if nat_lt s.num w.first then verdict.Early else judge_linked w s w.history

@@ -217,7 +217,7 @@ cursor kind own end lib = Some (record { step = kind; block = own; place = recor
 abbrev pub tailed : ℕ → Option Cursor
 tailed seen = Some (record { step = step.New; block = ref b4; place = at b4 a1; tail = Some (record { run = 700; seen = seen }) })
 
--- a block that is held nowhere
+-- a block that is not known
 abbrev pub zz : BlockRef
 zz = record { num = 9; id = id 122 122 }
 
@@ -263,6 +263,8 @@ pub record OrderTable : Type 0 where
   pub branches : linked_order 0 (c2 ∷ b4 ∷ b3 ∷ b2 ∷ a1 ∷ []) ≡ two_branches.history
   -- of two blocks that waited, one was admitted
   pub waits_on : (world_of (entry.Admitted c3_first ∷ entry.Admitted b2 ∷ entry.Waited c3_first ∷ entry.Waited x4 ∷ entry.Admitted a1 ∷ [])).waiting ≡ x4 ∷ []
+  -- one whose number the final tip has reached waits no more
+  pub waits_above : (world_of (entry.Admitted c3 ∷ entry.Admitted b2 ∷ entry.Waited q3 ∷ entry.Waited q2 ∷ entry.Admitted a1 ∷ [])).waiting ≡ q3 ∷ []
   -- each entry is told of once, and the size of the opening is kept
   pub opened : world_of (entry.Closed ∷ entry.Stored 0 ∷ entry.Admitted a1 ∷ entry.Kind plain_kind ∷ entry.Opened 1 700 narrow 50 ∷ [])
       ≡ record (empty_world 1 700 narrow) { size = 50; kind = Some plain_kind; history = a1 ∷ []; stored = 0 ∷ []; closed = true }

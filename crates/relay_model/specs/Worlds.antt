@@ -58,7 +58,7 @@ room_bytes (s ∷ older) = s.length + room_bytes older
 abbrev pub has_room : Limits → List Slip → Slip → Bool
 has_room limits room s = nat_le (length room + 1) limits.wait_blocks && nat_le (room_bytes room + s.length) limits.wait_bytes
 
--- of the waiting blocks whose parent is held, the one with the least number, among equals the earliest
+-- of the waiting blocks whose parent is known, the one with the least number, among equals the earliest
 abbrev pub next_waiting : List Slip → List Slip → Option Slip
 next_waiting newest room = least (filter (λ s. has_id newest s.parent_id) room)
 

@@ -2,14 +2,14 @@
 
 use block_record::Slip;
 
-/// How a block contradicts one that is held.
+/// How a block contradicts one that is known.
 #[derive(Clone, Copy, PartialEq, Eq, Debug)]
 pub enum ConflictKind {
     /// They have one id, and aren't the same block.
     Id,
-    /// The held one is the parent by id, and has another number than the block names.
+    /// The known one is the parent by id, and has another number than the block names.
     Parent,
-    /// The held one is the final tip, and the block's claim doesn't agree with it.
+    /// The known one is the final tip, and the block's claim doesn't agree with it.
     Finality,
 }
 

@@ -1,4 +1,4 @@
-use Rattle.relay_model.proofs.Fitting.{batch_fits}
+use Rattle.relay_model.proofs.public.Fitting.{batch_fits}
 use Rattle.relay_model.proofs.laws.batch_fits.Goals as goal
 
 pub returns : goal.returns

@@ -13,7 +13,7 @@ use Rattle.relay_model.specs.declared.answers.Conflict.{Conflict as Clash}
 use Rattle.relay_model.specs.Worlds.{lesser, least, next_waiting, without}
 use Rattle.relay_model.specs.Offers.{Intake, clash, take_judged, take_one, take_in}
 use Rattle.relay_model.specs.Soundness.{IsDistinct}
-use Rattle.relay_model.proofs.Admits.{admits}
+use Rattle.relay_model.proofs.public.Admits.{admits}
 
 pub all_filter : (P : Slip → Type 0) (p : Slip → Bool) (xs : List Slip) → AllByRecursion P xs → AllByRecursion P (filter p xs)
 all_filter P p [] all = tt

@@ -4,7 +4,7 @@ use Rattle.std.specs.List.{AllByRecursion, filter}
 use Rattle.std.proofs.lemmas.Bool.{cases_Bool, le-ltb, lt-ltb, ltb-false}
 use Rattle.std.proofs.lemmas.List.{length-append}
 use Rattle.std.proofs.lemmas.Option.{same_Some}
-use mathlib.Core.List.{IsSuffix, IsSuffix-trans}
+use mathlib.Core.List.{IsSuffix-trans}
 use Rattle.block_record.specs.declared.blocks.Slip.{Slip}
 use Rattle.block_record.specs.declared.blocks.Kind.{Kind}
 use Rattle.block_record.specs.Ids.{same_id, same_id_refl, same_id-true}
@@ -24,9 +24,9 @@ use Rattle.relay_model.specs.Soundness.{IsDistinct, IsSound}
 use Rattle.relay_model.specs.Laws.{OfferAdds}
 use Rattle.chain_laws.proofs.public.Roots.{has_tip}
 use Rattle.chain_laws.proofs.public.Tips.{tip_most}
-use Rattle.relay_model.proofs.Intakes.{IsTaken, next_is, IsTaking, keeps_one, grows_one, taking_grows}
-use Rattle.relay_model.proofs.Judged.{judged_waits, judged_takes}
-use Rattle.relay_model.proofs.Sound.{none_found, lacks_each, first_intake, starts, begins_taking, ends_taking, intake_grows}
+use Rattle.relay_model.proofs.public.Intakes.{IsTaken, next_is, IsTaking, keeps_one, grows_one, taking_grows}
+use Rattle.relay_model.proofs.public.Judged.{judged_waits, judged_takes}
+use Rattle.relay_model.proofs.public.Sound.{none_found, lacks_each, first_intake, starts, begins_taking, ends_taking, intake_grows}
 
 -- each block of a list without an id twice is found
 pub distinct_found : (xs : List Slip) → IsDistinct xs → AllByRecursion (λ x. find_id xs x.id ≡ Some x) xs

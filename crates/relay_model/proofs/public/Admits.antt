@@ -1,24 +1,13 @@
 -- Why a block that does not clash goes on with the history.
-use Rattle.std.proofs.Common.{arith, ◌≡◌, ◌<◌, ◌⊎◌, inl, inr, true, false, List, [], ◌∷◌, Some, None, sym, ◌∙◌, ap, if◌then◌else◌}
+use Rattle.std.proofs.Common.{arith, ◌≡◌, ◌<◌, inl, inr, true, false, List, [], ◌∷◌, Some, None, sym, ◌∙◌, ap, if◌then◌else◌}
 use Rattle.std.proofs.lemmas.Bool.{cases_Bool, both_ways}
-use Rattle.std.proofs.lemmas.Option.{same_Some}
 use Rattle.block_record.specs.declared.blocks.Slip.{Slip}
-use Rattle.block_record.specs.Ids.{same_id}
 use Rattle.chain_model.specs.Ancestry.{find_id, has_id, IsHistory}
 use Rattle.chain_model.specs.Finality.{claim, agrees, ClaimsAgree, final_tip}
-use Rattle.chain_laws.proofs.public.Lines.{find_id_past, find_id_at}
 use Rattle.chain_laws.proofs.public.Growth.{IsFound}
 use Rattle.chain_laws.proofs.public.Tips.{claims_go_on_to_agree}
 use Rattle.relay_model.specs.declared.answers.ConflictKind.TheVariants as kind
 use Rattle.relay_model.specs.Offers.{clash, parent_clash, finality_clash, conflict}
-
--- what is known of a block of a history with one more block
-pub found_cases : (s : Slip) (older : List Slip) (a : Slip) → IsFound (s ∷ older) a → (s ≡ a) ⊎ IsFound older a
-found_cases s older a f =
-    elim (cases_Bool (same_id s.id a.id)) [
-      | inl here ↦ inl (same_Some s a (sym (find_id_at s older a.id here) ∙ f))
-      | inr past ↦ inr (sym (find_id_past s older a.id past) ∙ f)
-    ]
 
 -- a parent's number, and the claim against the tip
 no_clash : (newest : List Slip) (s p : Slip) → find_id newest s.parent_id ≡ Some p → clash newest s ≡ None

@@ -19,9 +19,9 @@ use Rattle.relay_model.specs.Verdicts as verdict
 use Rattle.relay_model.specs.Soundness.{IsBlock}
 use Rattle.relay_model.specs.Soundness.{IsDistinct, IsSound}
 use Rattle.relay_model.specs.Laws.{OfferKeeps, OfferGrows}
-use Rattle.relay_model.proofs.Admits.{IsNext, admits, admits_root}
-use Rattle.relay_model.proofs.Intakes.{all_filter, all_pass, distinct_filter, none_next, IsTaking, keeps_taking, all_taken, taking_grows}
-use Rattle.relay_model.proofs.Judged.{IsNew, IsTaker, IsAdmitted, judged_waits, judged_takes}
+use Rattle.relay_model.proofs.public.Admits.{IsNext, admits, admits_root}
+use Rattle.relay_model.proofs.public.Intakes.{all_filter, all_pass, distinct_filter, none_next, IsTaking, keeps_taking, all_taken, taking_grows}
+use Rattle.relay_model.proofs.public.Judged.{IsNew, IsTaker, IsAdmitted, judged_waits, judged_takes}
 
 pub none_found : (xs : List Slip) (id : List ℕ) → find_id xs id ≡ None → has_id xs id ≡ false
 none_found [] id e = refl
