@@ -12,7 +12,7 @@ use Rattle.relay_model.specs.declared.answers.Conflict.{Conflict as Clash}
 use Rattle.relay_model.specs.Worlds.{lesser, least, next_waiting, without}
 use Rattle.relay_model.specs.Offers.{Intake, clash, take_judged, take_one, take_in}
 use Rattle.relay_model.specs.Orders.{position}
-use Rattle.relay_model.proofs.Intakes.{all_filter, all_pass, all_both, least_is, no_least, next_is, IsTaking, keeps_one}
+use Rattle.relay_model.proofs.public.Intakes.{all_filter, all_pass, all_both, least_is, no_least, next_is, IsTaking, keeps_one}
 use Rattle.relay_laws.proofs.Moves.{moves}
 
 abbrev pub Pairs : (Slip → Slip → Type 0) → List Slip → Type 0

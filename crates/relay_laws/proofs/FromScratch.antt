@@ -14,7 +14,7 @@ use Rattle.relay_model.specs.Runs.{empty_world, run, taken, received}
 use Rattle.relay_laws.specs.Laws.{Matches, FromScratch}
 use Rattle.relay_model.specs.Soundness.{IsDistinct}
 use Rattle.relay_laws.specs.Laws.{MatchesTip}
-use Rattle.relay_model.proofs.Intakes.{all_filter, distinct_filter}
+use Rattle.relay_model.proofs.public.Intakes.{all_filter, distinct_filter}
 use Rattle.relay_laws.proofs.Moves.{filter_found, found_filter}
 use Rattle.relay_laws.proofs.RunFacts.{last_of, IsRun, last_some}
 use Rattle.relay_laws.proofs.RunSteps.{run_of, run_first, once_distinct}

@@ -3,16 +3,16 @@ use Rattle.std.proofs.Common.{arith, ◌≡◌, ◌<◌, ◌⊎◌, inl, inr, �
 use Rattle.std.specs.List.{AllByRecursion}
 use Rattle.std.proofs.lemmas.Bool.{cases_Bool, both_ways, false_from_ne_true}
 use Rattle.std.proofs.lemmas.Option.{same_Some}
+use Rattle.block_record.proofs.public.SlipFacts.{same_slip_is, same_slip_refl}
 use Rattle.block_record.specs.declared.blocks.Slip.{Slip}
 use Rattle.block_record.specs.Ids.{same_id, same_id_refl, same_id-true}
 use Rattle.chain_model.specs.Ancestry.{has_id}
 use Rattle.chain_laws.proofs.public.Lines.{find_id_at, find_id_past, has_id-find_id}
-use Rattle.chain_laws.proofs.public.Growth.{IsFound, find_passes}
+use Rattle.chain_laws.proofs.public.Growth.{IsFound, find_passes, found_cases}
 use Rattle.block_record.specs.Slips.{same_slip}
 use Rattle.relay_model.specs.Orders.{position, link_time, Linked}
 use Rattle.relay_model.specs.Soundness.{IsDistinct}
-use Rattle.relay_model.proofs.Admits.{found_cases}
-use Rattle.relay_laws.proofs.RunFacts.{IsStep, same_slip_is, same_slip_refl}
+use Rattle.relay_laws.proofs.RunFacts.{IsStep}
 use Rattle.relay_laws.proofs.Times.{IsLinkedBy, link_down, link_up, root_time}
 use Rattle.relay_laws.proofs.Keys.{After}
 use Rattle.relay_laws.proofs.Drains.{Pairs}

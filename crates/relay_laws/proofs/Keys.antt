@@ -10,7 +10,7 @@ use Rattle.chain_laws.proofs.public.Lines.{find_id_at, find_id_past}
 use Rattle.relay_laws.proofs.EitherTest.{or_left, or_right}
 use Rattle.relay_model.specs.Orders.{Linked, comes_after, put, sorted}
 use Rattle.relay_model.specs.Soundness.{IsDistinct}
-use Rattle.relay_model.proofs.Sound.{swap_ids}
+use Rattle.relay_model.proofs.public.Sound.{swap_ids}
 
 pub data After (a b : Linked) : Type 0 where
   ByTime : b.time < a.time → After a b

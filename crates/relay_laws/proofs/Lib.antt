@@ -13,3 +13,4 @@ pub mod OrderRuns
 pub mod Sorted
 pub mod SortedRuns
 pub mod FromScratch
+mod TableFacts

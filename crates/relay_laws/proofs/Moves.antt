@@ -7,14 +7,14 @@ use Rattle.block_record.specs.declared.blocks.Slip.{Slip}
 use Rattle.block_record.specs.Ids.{same_id, same_id_refl, same_id-true}
 use Rattle.chain_model.specs.Ancestry.{find_id, has_id}
 use Rattle.chain_laws.proofs.public.Lines.{has_id-find_id, find_id_at, find_id_past}
-use Rattle.chain_laws.proofs.public.Growth.{IsFound, found_past}
+use Rattle.chain_laws.proofs.public.Growth.{IsFound, found_past, found_cases}
 use Rattle.relay_model.specs.declared.answers.Conflict.{Conflict as Clash}
 use Rattle.relay_model.specs.Worlds.{next_waiting}
 use Rattle.relay_model.specs.Offers.{Intake, take_one, take_judged, take_in, clash}
 use Rattle.relay_model.specs.Soundness.{IsDistinct}
-use Rattle.relay_model.proofs.Admits.{found_cases, admits}
-use Rattle.relay_model.proofs.Intakes.{IsTaken, next_is, IsTaking, keeps_one, find_of}
-use Rattle.relay_model.proofs.Entries.{distinct_found}
+use Rattle.relay_model.proofs.public.Admits.{admits}
+use Rattle.relay_model.proofs.public.Intakes.{IsTaken, next_is, IsTaking, keeps_one, find_of}
+use Rattle.relay_model.proofs.public.Entries.{distinct_found}
 
 -- a block of a filtered list
 pub filter_found : (p : Slip → Bool) (xs : List Slip) → IsDistinct xs → (x : Slip) → IsFound xs x → p x ≡ true → IsFound (filter p xs) x

@@ -8,12 +8,11 @@ use Rattle.block_record.specs.Ids.{same_id, same_id_refl, same_id-true}
 use Rattle.chain_model.specs.Ancestry.{find_id, has_id, IsHistory, Follows}
 use Rattle.chain_model.specs.Finality.{root_num}
 use Rattle.chain_laws.proofs.public.Lines.{find_id_at, find_id_past, has_id-find_id}
-use Rattle.chain_laws.proofs.public.Growth.{IsFound}
+use Rattle.chain_laws.proofs.public.Growth.{IsFound, found_cases}
 use Rattle.chain_laws.proofs.public.Orders.{root_least, root_found}
 use Rattle.relay_model.specs.Orders.{Linked, position, link_time, linked_at, linkable, sorted, comes_after}
 use Rattle.relay_model.specs.Soundness.{IsDistinct}
-use Rattle.relay_model.proofs.Admits.{found_cases}
-use Rattle.relay_model.proofs.Entries.{distinct_found}
+use Rattle.relay_model.proofs.public.Entries.{distinct_found}
 use Rattle.relay_laws.proofs.Keys.{After, ByTime, ByNum, is_after, Falls, slips, sorted_all, sorted_falls, sorted_distinct, sorted_find}
 use Rattle.relay_laws.proofs.Times.{IsLinkedBy, root_time, link_down, IsAboveRoot, above_root}
 

@@ -2,11 +2,12 @@
 use Rattle.std.proofs.Common.{arith, ◌≡◌, ◌<◌, ◌⊎◌, inl, inr, ℕ, Bool, true, false, cond, leb, List, [], ◌∷◌, ◌++◌, Option, Some, None, refl, sym, ◌∙◌, ap, subst}
 use Rattle.std.specs.List.{AllByRecursion, list_any}
 use Rattle.std.proofs.lemmas.Bool.{cases_Bool, both_ways, false_from_ne_true, or_cases, leb-true, leb-false}
+use Rattle.block_record.proofs.public.SlipFacts.{same_slip_is, same_slip_refl}
 use Rattle.block_record.specs.declared.blocks.Slip.{Slip}
 use Rattle.block_record.specs.Ids.{same_id, same_id_refl, same_id-true}
 use Rattle.chain_model.specs.Ancestry.{find_id, has_id}
 use Rattle.chain_laws.proofs.public.Lines.{find_id_at, find_id_past, has_id-find_id, id-find_id}
-use Rattle.chain_laws.proofs.public.Growth.{IsFound, find_passes}
+use Rattle.chain_laws.proofs.public.Growth.{IsFound, find_passes, found_cases}
 use Rattle.relay_laws.proofs.EitherTest.{or_right}
 use Rattle.relay_model.specs.declared.answers.Conflict.{Conflict as Clash}
 use Rattle.block_record.specs.Slips.{same_slip}
@@ -18,10 +19,9 @@ use Rattle.relay_model.specs.Orders.{once, root_or, root_of, position}
 use Rattle.relay_model.specs.Runs.{empty_world, run, is_ok, taken, dropped_by, dropped, OneEach}
 use Rattle.relay_model.specs.Soundness.{IsBlock}
 use Rattle.relay_model.specs.Soundness.{IsDistinct}
-use Rattle.relay_model.proofs.Admits.{found_cases}
-use Rattle.relay_model.proofs.Intakes.{find_of}
-use Rattle.relay_model.proofs.Sound.{empty_sound, keeps_by}
-use Rattle.relay_laws.proofs.RunFacts.{IsStep, IsRun, same_slip_is, same_slip_refl, run_step}
+use Rattle.relay_model.proofs.public.Intakes.{find_of}
+use Rattle.relay_model.proofs.public.Sound.{empty_sound, keeps_by}
+use Rattle.relay_laws.proofs.RunFacts.{IsStep, IsRun, run_step}
 
 once_has : (xs : List Slip) (s : Slip) → IsFound (once xs) s → list_any (same_slip s) xs ≡ true
 once_has [] s f = absurd (grind (arith, f))

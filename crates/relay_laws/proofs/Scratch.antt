@@ -6,6 +6,7 @@ use Rattle.std.proofs.lemmas.Bool.{and_parts, cases_Bool, both_ways, or_cases, l
 use Rattle.std.proofs.lemmas.Option.{same_Some}
 use Rattle.block_record.specs.declared.blocks.Slip.{Slip}
 use Rattle.block_record.specs.Ids.{same_id, same_id_refl, same_id-true}
+use Rattle.block_record.proofs.public.SlipFacts.{same_slip_is, same_slip_refl}
 use Rattle.chain_model.specs.Ancestry.{find_id, has_id, ancestry, IsHistory}
 use Rattle.chain_model.specs.Finality.{root_num, ClaimsAgree, on_path, final_tip}
 use Rattle.chain_laws.proofs.public.Lines.{IsHistory-rest, find_id_at, has_id-find_id, id-find_id, IsAbove, is_above}
@@ -23,7 +24,7 @@ use Rattle.relay_laws.specs.Laws.{MatchesTip, TipFromScratch}
 use Rattle.relay_model.specs.Runs.{empty_world, run, taken, received}
 use Rattle.relay_laws.proofs.RunSteps.{run_of, run_first, once_distinct}
 use Rattle.chain_model.specs.Steps.{holds_tip}
-use Rattle.relay_laws.proofs.RunFacts.{last_of, Where, IsRun, same_slip_is, same_slip_refl, last_some}
+use Rattle.relay_laws.proofs.RunFacts.{last_of, Where, IsRun, last_some}
 use Rattle.relay_laws.proofs.Times.{IsParent, root_time, link_up, above_root, IsAboveRoot}
 use Rattle.relay_laws.proofs.Keys.{slips}
 use Rattle.relay_laws.proofs.OrderFacts.{IsPlaced, key_of, keyed, order_found, order_placed, order_is_history, order_root}

@@ -18,8 +18,8 @@ use Rattle.chain_laws.proofs.public.Later.{ancestry_later, history_older}
 use Rattle.chain_laws.proofs.public.Roots.{has_tip}
 use Rattle.relay_model.specs.Soundness.{IsDistinct}
 use Rattle.relay_laws.proofs.Times.{link_down}
-use Rattle.relay_model.proofs.Intakes.{all_filter}
-use Rattle.relay_model.proofs.Sound.{lacks_parts}
+use Rattle.relay_model.proofs.public.Intakes.{all_filter}
+use Rattle.relay_model.proofs.public.Sound.{lacks_parts}
 use Rattle.relay_model.specs.Orders.{position, link_time}
 use Rattle.relay_laws.proofs.RunFacts.{IsStep}
 use Rattle.relay_laws.proofs.Keys.{After, ByTime, ByNum, ByPlace}

@@ -10,7 +10,7 @@ use Rattle.chain_model.specs.Ancestry.{find_id, has_id, ancestry, IsHistory}
 use Rattle.chain_model.specs.Finality.{final_tip, ClaimsAgree}
 use Rattle.chain_model.specs.Steps.{holds_tip}
 use Rattle.chain_laws.proofs.public.Lines.{find_id_at, has_id-find_id, has_id-ancestry}
-use Rattle.chain_laws.proofs.public.Growth.{IsFound, all_weaker, all_found, tip_claimed, claim_found}
+use Rattle.chain_laws.proofs.public.Growth.{IsFound, all_weaker, all_found, tip_claimed, claim_found, found_cases}
 use Rattle.chain_laws.proofs.public.Reach.{head_is_found}
 use Rattle.chain_laws.proofs.public.LineFacts.{parent_at, same_number}
 use Rattle.chain_laws.proofs.public.Roots.{has_tip}
@@ -25,11 +25,10 @@ use Rattle.relay_model.specs.Orders.{position, link_time, root_of, once}
 use Rattle.relay_model.specs.Soundness.{IsBlock}
 use Rattle.relay_model.specs.Runs.{is_ok, dropped_by, OneEach, empty_world, run, taken, dropped}
 use Rattle.relay_model.specs.Soundness.{IsDistinct}
-use Rattle.relay_model.proofs.Admits.{found_cases}
-use Rattle.relay_model.proofs.Intakes.{all_filter, taking_grows}
-use Rattle.relay_model.proofs.Judged.{IsWaiting, judged_takes, judged_waits}
-use Rattle.relay_model.proofs.Sound.{first_intake, starts, begins_taking, ends_taking, new_parts}
-use Rattle.relay_model.proofs.Entries.{distinct_found}
+use Rattle.relay_model.proofs.public.Intakes.{all_filter, taking_grows}
+use Rattle.relay_model.proofs.public.Judged.{IsWaiting, judged_takes, judged_waits}
+use Rattle.relay_model.proofs.public.Sound.{first_intake, starts, begins_taking, ends_taking, new_parts}
+use Rattle.relay_model.proofs.public.Entries.{distinct_found}
 use Rattle.chain_laws.proofs.public.Tips.{on_one_path}
 use Rattle.relay_laws.proofs.Moves.{Moves, moves}
 use Rattle.relay_laws.proofs.RunFacts.{last_of, last_append, IsStep, IsRun, Where, run_step}

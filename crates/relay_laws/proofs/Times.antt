@@ -4,6 +4,7 @@ use Rattle.std.proofs.Math.Dec.{eqb}
 use Rattle.std.specs.List.{find}
 use Rattle.std.proofs.lemmas.Bool.{and_parts, cases_Bool, both_ways, false_from_ne_true, ltb-true, lt-ltb, eqb-true, eq-eqb}
 use Rattle.std.proofs.lemmas.Option.{same_Some}
+use Rattle.block_record.proofs.public.SlipFacts.{same_slip_is, same_slip_refl}
 use Rattle.block_record.specs.declared.blocks.Slip.{Slip}
 use Rattle.block_record.specs.Ids.{same_id, same_id_refl, same_id-true}
 use Rattle.chain_laws.proofs.public.Lines.{find_id_at, find_id_past}
@@ -11,8 +12,7 @@ use Rattle.chain_laws.proofs.public.Growth.{IsFound, find_passes}
 use Rattle.block_record.specs.Slips.{same_slip}
 use Rattle.relay_model.specs.Orders.{position, is_parent, later, time_by, link_time_in, link_time}
 use Rattle.relay_model.specs.Soundness.{IsDistinct}
-use Rattle.relay_model.proofs.Entries.{distinct_found}
-use Rattle.relay_laws.proofs.RunFacts.{same_slip_is, same_slip_refl}
+use Rattle.relay_model.proofs.public.Entries.{distinct_found}
 
 find_true : (p : Slip → Bool) (xs : List Slip) (x : Slip) → find p xs ≡ Some x → p x ≡ true
 find_true p [] x e = absurd (grind (arith, e))

@@ -3,12 +3,12 @@ use Rattle.std.proofs.Common.{arith, ◌≡◌, inl, inr, true, List, [], ◌∷
 use Rattle.std.proofs.lemmas.Bool.{or_cases}
 use Rattle.std.proofs.lemmas.Option.{same_Some}
 use Rattle.block_record.specs.declared.blocks.Slip.{Slip}
-use Rattle.chain_model.specs.Ancestry.{find_id, has_id, ancestry, IsHistory}
+use Rattle.chain_model.specs.Ancestry.{find_id, ancestry, IsHistory}
 use Rattle.chain_model.specs.Finality.{root_num, claim, on_path, ClaimsAgree, final_tip}
 use Rattle.chain_laws.proofs.public.Lines.{id-find_id, is_above}
-use Rattle.chain_laws.proofs.public.Growth.{IsFound, find_passes, claim_found, tip_claimed}
+use Rattle.chain_laws.proofs.public.Growth.{IsFound, claim_found, tip_claimed}
 use Rattle.chain_laws.proofs.public.Reach.{head_is_found, has_id-suffix}
-use Rattle.chain_laws.proofs.public.Meeting.{all_in}
+use Rattle.chain_laws.proofs.public.Meeting.{claim_on_path}
 use Rattle.chain_laws.proofs.public.Orders.{root_least, alone_is_root}
 use Rattle.chain_laws.proofs.public.LineFacts.{parent_at}
 use Rattle.chain_laws.proofs.public.Tips.{tip_most}
@@ -51,10 +51,6 @@ same_lines a b w s found =
 pub same_claim : (a b : List Slip) → IsWithin a b → (s : Slip) → IsFound a s → claim a s ≡ claim b s
 same_claim a b w s found = rw (same_lines a b w s found, w.root) refl
 
--- a claim is on the path of its block
-pub claim_on : (newest : List Slip) (b c : Slip) → claim newest b ≡ Some c → has_id (ancestry newest b.id) c.id ≡ true
-claim_on newest b c e = find_passes (λ x. has_id (ancestry newest b.id) x.id ≡ true) _ (ancestry newest b.id) c (all_in (ancestry newest b.id)) e
-
 -- where each block above the tip of the smaller is in it, the tip is that of the larger
 pub same_tip : (a b : List Slip) → IsWithin a b → ClaimsAgree b → (t : Slip) → final_tip a ≡ Some t
     → ((y : Slip) → IsFound b y → on_path b t y ≡ true → IsFound a y) → (u : Slip) → final_tip b ≡ Some u → t ≡ u
@@ -68,7 +64,7 @@ same_tip a b w agreed t et up u eu =
     let le = tip_most b u x.by t eu fx ct in
     elim (or_cases _ _ (agreed x.by y.by t u fx y.found ct y.claimed)) [
       | inl low ↦
-          let path = has_id-suffix _ _ t.id (is_above b w.whole y.by.id u.id (claim_on b y.by u y.claimed)).line low in
+          let path = has_id-suffix _ _ t.id (is_above b w.whole y.by.id u.id (claim_on_path b y.by u y.claimed)).line low in
           let fy = up y.by y.found path in
           let cu : claim a y.by ≡ Some u = same_claim a b w y.by fy ∙ y.claimed in
           same_number b w.whole t u ft fu low (tip_most a t y.by u et fy cu)
