@@ -12,8 +12,8 @@ use Rattle.relay_model.specs.declared.answers.Conflict.{Conflict as Clash}
 use Rattle.relay_model.specs.Worlds.{World, descendants, descends, next_waiting, without}
 use Rattle.relay_model.specs.Offers.{Intake, clash, intake, take_judged, take_one, take_in}
 use Rattle.relay_model.specs.Soundness.{IsSound}
-use Rattle.relay_model.proofs.Intakes.{IsTaken, all_filter, distinct_filter, find_of, next_is, without_short}
-use Rattle.relay_model.proofs.Entries.{distinct_found}
+use Rattle.relay_model.proofs.public.Intakes.{IsTaken, all_filter, distinct_filter, find_of, next_is, without_short}
+use Rattle.relay_model.proofs.public.Entries.{distinct_found}
 use Rattle.block_relay.specs.Taking.{Counted}
 
 -- a link more does no harm

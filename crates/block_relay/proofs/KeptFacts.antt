@@ -13,9 +13,9 @@ use Rattle.relay_model.specs.Soundness.{IsBlock, IsSound}
 use Rattle.relay_model.specs.Offers.{Intake, intake, kind_after, purged, clash, judge, judge_clash, judge_held, judge_linked, judge_parent, offered, tip_num, world_by}
 use Rattle.relay_model.specs.Verdicts.{Verdict}
 use Rattle.relay_model.specs.Verdicts as verdict
-use Rattle.relay_model.proofs.Entries.{offer_adds}
-use Rattle.relay_model.proofs.Judged.{judged_waits, limit_takes}
-use Rattle.relay_model.proofs.Sound.{keeps_by, new_parts, none_found, same_sound}
+use Rattle.relay_model.proofs.public.Entries.{offer_adds}
+use Rattle.relay_model.proofs.public.Judged.{judged_waits, limit_takes}
+use Rattle.relay_model.proofs.public.Sound.{keeps_by, new_parts, none_found, same_sound}
 use Rattle.chain_model.specs.Ancestry.{find_id, has_id}
 use Rattle.chain_model.specs.Finality.{root_num}
 use Rattle.fork_db.specs.Forks.{Forks}
@@ -26,7 +26,7 @@ use Rattle.block_relay.specs.declared.marks.Mark.TheVariants as mark
 use Rattle.block_relay.specs.Chronicle.{IsKept, Told, entries_by, has_kind_mark, kind_entry, kind_mark, world_told}
 use Rattle.block_relay.specs.Judged.{HasParts}
 use Rattle.block_relay.specs.Taking.{Dropping, HasLimits, intake_from}
-use Rattle.relay_model.proofs.Intakes.{taking_grows}
+use Rattle.relay_model.proofs.public.Intakes.{taking_grows}
 
 abbrev pub told : List Entry → List Clash → Told
 told es cs = record { entries = es; conflicts = cs; payloads = payloads.Kept }

@@ -13,10 +13,10 @@ use Rattle.fork_db.specs.Forks.{Forks}
 use Rattle.fork_db.specs.Verdicts.{verdict_of, fits}
 use Rattle.wait_room.specs.Rooms.{Room, children_in, linked_in, room_without}
 use Rattle.wait_room.proofs.LinkedFacts.{linked_more, none_held}
-use Rattle.relay_model.proofs.Judged.{IsTaker, judged_takes}
-use Rattle.relay_model.proofs.Sound.{first_intake, new_parts, rises_above, starts}
+use Rattle.relay_model.proofs.public.Judged.{IsTaker, judged_takes}
+use Rattle.relay_model.proofs.public.Sound.{first_intake, new_parts, rises_above, starts}
 use Rattle.block_relay.proofs.JudgedFacts.{fits_child}
-use Rattle.relay_model.proofs.Intakes.{keeps_one, next_is}
+use Rattle.relay_model.proofs.public.Intakes.{keeps_one, next_is}
 use Rattle.block_relay.specs.Taking.{AreAllSome, CanStart, CanTake, Dropping, HasLimits, dropped_after, history_after}
 use Rattle.block_relay.proofs.CountFacts.{counts_first, counts_one, next_counts}
 

@@ -9,7 +9,7 @@ use Rattle.relay_model.specs.Worlds.{World, descendants, descends}
 use Rattle.relay_model.specs.Offers.{Intake, judge, take_in}
 use Rattle.relay_model.specs.Verdicts as verdict
 use Rattle.relay_model.specs.Soundness.{IsBlock, IsDistinct, IsSound}
-use Rattle.relay_model.proofs.Intakes.{IsTaking}
+use Rattle.relay_model.proofs.public.Intakes.{IsTaking}
 use Rattle.fork_db.specs.Forks.{Forks}
 use Rattle.wait_room.specs.Rooms.{AreKept, Room}
 use Rattle.block_relay.specs.Judged.{HasParts}

@@ -24,7 +24,7 @@ use Rattle.fork_db.specs.Batches.{IsGiven, WasGiven, step_seen}
 use Rattle.relay_model.specs.Worlds.{World}
 use Rattle.relay_model.specs.Offers.{Answer, offered}
 use Rattle.relay_model.specs.Soundness.{IsBlock, IsSound}
-use Rattle.relay_model.proofs.Sound.{offer_keeps, offer_grows}
+use Rattle.relay_model.proofs.public.Sound.{offer_keeps, offer_grows}
 use Rattle.block_relay.specs.declared.answers.Offered.{Offered}
 use Rattle.block_relay.specs.declared.answers.Offered.TheVariants as answer
 use Rattle.block_relay.specs.declared.answers.OfferFault.{OfferFault}

@@ -24,8 +24,8 @@ use Rattle.relay_model.specs.Soundness.{IsBlock, IsSound}
 use Rattle.relay_model.specs.Offers.{judge, intake, answer_by, world_by, offered}
 use Rattle.relay_model.specs.Verdicts.{Verdict}
 use Rattle.relay_model.specs.Verdicts as verdict
-use Rattle.relay_model.proofs.Intakes.{taking_grows}
-use Rattle.relay_model.proofs.Sound.{first_intake, offer_keeps}
+use Rattle.relay_model.proofs.public.Intakes.{taking_grows}
+use Rattle.relay_model.proofs.public.Sound.{first_intake, offer_keeps}
 use Rattle.step_text.specs.declared.refusals.Refusal.{Refusal}
 use Rattle.step_text.specs.StepText.{refusal_of, steps_by, place_by}
 use Rattle.step_laws.specs.Telling.{unless_refused, steps_told, world_left, place_left, head_place, at_head}

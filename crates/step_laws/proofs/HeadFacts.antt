@@ -16,7 +16,7 @@ use Rattle.chain_laws.proofs.public.Reach.{IsLine, drop_line, head_is_found, has
 use Rattle.chain_laws.proofs.public.Meeting.{whole_line, whole_has, itself_on_path}
 use Rattle.chain_laws.proofs.public.LineFacts.{line_is, first_is_found, same_number}
 use Rattle.chain_laws.proofs.public.Ends.{place_same}
-use Rattle.relay_model.proofs.Intakes.{all_filter}
+use Rattle.relay_model.proofs.public.Intakes.{all_filter}
 use Rattle.step_laws.specs.Telling.{head_place, at_head, has_head}
 
 -- the greatest of blocks is one of them

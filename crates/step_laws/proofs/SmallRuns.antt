@@ -8,7 +8,7 @@ use Rattle.chain_model.specs.Places.{no_place}
 use Rattle.relay_model.specs.Offers.{offered}
 use Rattle.relay_model.specs.Orders.{linked_order}
 use Rattle.relay_model.specs.Tables.{at, a1, b2, b3, b4, c2, c3_first, x3, y3}
-use Rattle.relay_model.proofs.Sound.{offer_keeps}
+use Rattle.relay_model.proofs.public.Sound.{offer_keeps}
 use Rattle.step_text.specs.Limits.{new_world}
 use Rattle.step_text.specs.StepText.{tell}
 use Rattle.step_laws.specs.Telling.{steps_told, world_left, place_left, head_place, has_head, received_of}

@@ -11,8 +11,8 @@ use Rattle.relay_model.specs.Worlds.{least, lesser, next_waiting}
 use Rattle.wait_room.specs.declared.waiters.Waiter.{Waiter}
 use Rattle.wait_room.specs.Rooms.{children_in, linked_in, slips_of, waiting_of}
 use Rattle.block_record.specs.Ids.{same_id, same_id_equiv, same_id-true}
-use Rattle.relay_model.proofs.Intakes.{next_is}
-use Rattle.relay_model.proofs.Sound.{swap_ids}
+use Rattle.relay_model.proofs.public.Intakes.{next_is}
+use Rattle.relay_model.proofs.public.Sound.{swap_ids}
 use Rattle.wait_room.proofs.CountFacts.{count_first, one_child}
 use Rattle.wait_room.proofs.ScanFacts.{slip_at_slices}
 use Rattle.wait_room.proofs.TurnedFacts.{filter_turned}

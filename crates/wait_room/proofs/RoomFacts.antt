@@ -17,9 +17,9 @@ use Rattle.wait_room.specs.Keys.{same_key}
 use Rattle.block_record.specs.Ids.{same_id, same_id_equiv, same_id_refl, same_id-true}
 use Rattle.chain_model.specs.Ancestry.{find_id, has_id}
 use Rattle.relay_model.specs.Soundness.{IsDistinct}
-use Rattle.relay_model.proofs.Intakes.{distinct_filter}
+use Rattle.relay_model.proofs.public.Intakes.{distinct_filter}
 use Rattle.relay_model.specs.Worlds.{descendants, descends, room_bytes, without}
-use Rattle.relay_model.proofs.Sound.{swap_ids}
+use Rattle.relay_model.proofs.public.Sound.{swap_ids}
 use Rattle.wait_room.specs.declared.waiters.Waiter.{Waiter}
 use Rattle.wait_room.specs.Rooms.{slips_of, kept_of, kept_at, kept_beside, waiting_of, held_of, AreKept, HasOwnSlip, IsOwnSlip, Room, fits_in, room_where}
 use Rattle.block_record.proofs.public.ListFacts.{all_reverse, map_reverse}

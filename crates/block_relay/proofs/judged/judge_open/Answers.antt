@@ -1,6 +1,6 @@
 use Rattle.std.proofs.Common.{◌++◌, ap, sym, ◌∙◌}
 use Rattle.std.specs.Option.{option_copied}
-use Rattle.relay_model.proofs.Sound.{lacks_parts, none_found}
+use Rattle.relay_model.proofs.public.Sound.{lacks_parts, none_found}
 use Rattle.block_relay.proofs.judged.judge_open.Goals as goal
 
 pub judge_linked-requires-clause-fresh : goal.judge_linked-requires-clause-fresh

@@ -8,7 +8,7 @@ use Rattle.wait_room.specs.Rooms.{Room, linked_in, room_without}
 use Rattle.wait_room.proofs.RoomFacts.{length_filtered}
 use Rattle.relay_model.specs.Worlds.{next_waiting, without}
 use Rattle.relay_model.specs.Offers.{Intake, clash, take_one}
-use Rattle.relay_model.proofs.Intakes.{next_is}
+use Rattle.relay_model.proofs.public.Intakes.{next_is}
 use Rattle.block_relay.specs.Taking.{CanTake, intake_of}
 use Rattle.block_relay.proofs.CountFacts.{next_counts}
 use Rattle.block_relay.proofs.TakingFacts.{next_can, placed, without_blocks, without_bytes}

@@ -1,7 +1,7 @@
 use Rattle.std.proofs.Common.{arith, ◌≡◌, ◌-◌, ◌+◌, suc, None, length, ap, sym, ◌∙◌}
 use Rattle.relay_model.specs.Worlds.{next_waiting}
 use Rattle.relay_model.specs.Offers.{take_in}
-use Rattle.relay_model.proofs.Intakes.{stays}
+use Rattle.relay_model.proofs.public.Intakes.{stays}
 use Rattle.wait_room.proofs.LinkedFacts.{none_next}
 use Rattle.block_relay.specs.Taking.{intake_of}
 use Rattle.block_relay.proofs.TakingFacts.{limits_twice}

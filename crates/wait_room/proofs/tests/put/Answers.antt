@@ -1,6 +1,6 @@
 use Rattle.std.proofs.Common.{ap, sym, ◌∙◌}
 use Rattle.std.specs.Option.{option_copied}
-use Rattle.relay_model.proofs.Sound.{none_found}
+use Rattle.relay_model.proofs.public.Sound.{none_found}
 use Rattle.wait_room.proofs.tests.put.Goals as goal
 
 pub put-requires-clause-fresh : goal.put-requires-clause-fresh

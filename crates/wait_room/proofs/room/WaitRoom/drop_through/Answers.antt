@@ -4,7 +4,7 @@ use Rattle.std.proofs.lemmas.List.Elements.{All-filter}
 use Rattle.block_record.specs.declared.blocks.Slip.{Slip}
 use Rattle.relay_model.specs.Soundness.{IsDistinct}
 use Rattle.relay_model.specs.Worlds.{room_bytes}
-use Rattle.relay_model.proofs.Intakes.{distinct_filter}
+use Rattle.relay_model.proofs.public.Intakes.{distinct_filter}
 use Rattle.wait_room.specs.declared.waiters.Waiter.{Waiter}
 use Rattle.wait_room.specs.Rooms.{HasOwnSlip, children_in, room_above, slips_of, waiting_of, held_of}
 use Rattle.wait_room.specs.Numbers.{numbered_in}
