@@ -7,25 +7,24 @@ use Rattle.block_record.specs.declared.blocks.Slip.{Slip}
 use Rattle.block_record.specs.declared.blocks.BlockRef.{BlockRef}
 use Rattle.chain_model.specs.declared.places.Place.{Place}
 use Rattle.chain_model.specs.declared.places.Mode.TheVariants as mode
-use Rattle.chain_model.specs.Ancestry.{has_id, IsHistory}
+use Rattle.chain_model.specs.Ancestry.{IsHistory}
 use Rattle.chain_model.specs.Finality.{ClaimsAgree}
 use Rattle.chain_model.specs.Steps.{BlockStep, steps_of, target, place_after}
 use Rattle.chain_model.specs.Places.{PlaceFits, place_to}
 use Rattle.chain_model.specs.Fold.{FoldState, fold_steps, after_step}
 use Rattle.chain_laws.specs.Standing.{stands, IsUnder}
-use Rattle.chain_laws.proofs.public.Lines.{some_and, has_id-find_id}
+use Rattle.chain_laws.proofs.public.Lines.{has_id-find_id}
 use Rattle.chain_laws.proofs.public.Growth.{IsFound, all_weaker}
-use Rattle.chain_laws.proofs.public.Later.{find_later, held_later, ancestry_later, fits_later, stands_later}
+use Rattle.chain_laws.proofs.public.Later.{find_later, fits_later, stands_later, under_later}
 use Rattle.chain_laws.proofs.public.Walks.{Walk, next}
 use Rattle.chain_laws.proofs.public.Starts.{start}
 use Rattle.chain_laws.proofs.public.Ends.{walk_along, walk_under, fold_along, place_reached}
 use Rattle.relay_model.specs.Worlds.{World}
 use Rattle.relay_model.specs.Soundness.{IsBlock, IsSound}
-use Rattle.relay_model.specs.Offers.{judge, intake, answer_by, world_by, offered}
+use Rattle.relay_model.specs.Offers.{judge, answer_by, world_by, offered}
 use Rattle.relay_model.specs.Verdicts.{Verdict}
 use Rattle.relay_model.specs.Verdicts as verdict
-use Rattle.relay_model.proofs.public.Intakes.{taking_grows}
-use Rattle.relay_model.proofs.public.Sound.{first_intake, offer_keeps}
+use Rattle.relay_model.proofs.public.Sound.{intake_grows, offer_keeps}
 use Rattle.step_text.specs.declared.refusals.Refusal.{Refusal}
 use Rattle.step_text.specs.StepText.{refusal_of, steps_by, place_by}
 use Rattle.step_laws.specs.Telling.{unless_refused, steps_told, world_left, place_left, head_place, at_head}
@@ -40,16 +39,6 @@ fold_steps-append f g (x ∷ xs) ys e = go (after_step f x) refl (λ h rest. fol
     go : (o : Option FoldState) → after_step f x ≡ o → ((h : FoldState) → fold_steps h xs ≡ Some g → fold_steps h (xs ++ ys) ≡ fold_steps g ys) → fold_steps f ((x ∷ xs) ++ ys) ≡ fold_steps g ys
     go None is on = absurd (grind (arith, e, is))
     go (Some h) is on = let rest : fold_steps h xs ≡ Some g = grind (arith, e, is) in rw is (on h rest)
-
--- a base goes on to be on the path of the lib
-under_later : (more older : List Slip) → IsHistory (more ++ older) → (base end lib : Option BlockRef) → PlaceFits older end lib → IsUnder older base lib → IsUnder (more ++ older) base lib
-under_later more older history None end lib fits under = tt
-under_later more older history (Some r) end None fits under = absurd under
-under_later more older history (Some r) None (Some l) fits under = absurd fits
-under_later more older history (Some r) (Some e) (Some l) fits under =
-    let b = some_and _ _ fits.lib_held in
-    let same = ancestry_later more older history l.id (has_id-find_id older l.id b.0 b.1) in
-    (held_later more older history r under.0, ap (λ x. has_id x r.id) same ∙ under.1)
 
 -- each step is of a block of the history
 abbrev AllHeld : List Slip → List BlockStep → Type 0
@@ -102,7 +91,7 @@ follows_head w after base place more is history agreed fits under =
     let fits' : PlaceFits after.history place.end place.lib =
     subst (λ (h : List Slip). PlaceFits h place.end place.lib) is (fits_later more w.history history' agreed' place.end place.lib fits) in
     let under' : IsUnder after.history base place.lib =
-    subst (λ (h : List Slip). IsUnder h base place.lib) is (under_later more w.history history' base place.end place.lib fits under) in
+    subst (λ (h : List Slip). IsUnder h base place.lib) is (under_later more w.history history' base place fits under) in
     let stood : stands w.history base place ≡ stands after.history base place =
     sym (stands_later more w.history history' base place fits) ∙ ap (λ h. stands h base place) is in
     let steps = steps_of after.history place mode.Live None in
@@ -131,11 +120,8 @@ moves_by w s base place fits under verdict.WaitFull sound = stays w w base place
 moves_by w s base place fits under verdict.Waiting sound = stays w (world_by w s verdict.Waiting) base place refl fits under
 moves_by w s base place fits under (verdict.HistoryFull need) sound = stays w w base place refl fits under
 moves_by w s base place fits under verdict.Admitted sound =
-    let grown = offer_grows_by in
+    let grown = intake_grows w s in
     follows_head w (world_by w s verdict.Admitted) base place grown.0 grown.1 sound.history sound.agreed fits under
-  where
-    offer_grows_by : IsSuffix w.history (intake w s).history
-    offer_grows_by = IsSuffix-trans (s ∷ [], refl) (taking_grows (length w.waiting) (first_intake w s))
 
 moves : (w : World) (s : Slip) (base : Option BlockRef) (place : Place) → IsSound w → IsBlock s → PlaceFits w.history place.end place.lib → IsUnder w.history base place.lib
     → Moves w (offered w s).world base place (place_by (offered w s).answer (offered w s).world.history place) (steps_by (offered w s).answer (offered w s).world.history place)

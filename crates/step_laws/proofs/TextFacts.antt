@@ -1,16 +1,13 @@
 -- The text of a run is the lines of its steps.
 use Rattle.std.proofs.Common.{◌≡◌, List, [], ◌∷◌, ◌++◌, map, Option, Some, None, refl, sym, ◌∙◌, ap}
-use Rattle.std.proofs.lemmas.List.{append-nil, map-append}
-use Rattle.std.proofs.lemmas.List.Concat.{flat_map-append}
+use Rattle.std.proofs.lemmas.List.{append-nil}
 use Rattle.chain_model.specs.Steps.{BlockStep, plain_of}
 use Rattle.relay_model.specs.Offers.{offered}
 use Rattle.step_text.specs.declared.refusals.Refusal.{Refusal}
-use Rattle.step_text.specs.StepText.{Told, step_line, step_lines, goes_on, tell, refusal_of, steps_by, place_by}
+use Rattle.step_text.specs.StepText.{Told, step_lines, goes_on, tell, refusal_of, steps_by, place_by}
+use Rattle.step_text.proofs.public.RunFacts.{lines-append}
 use Rattle.step_laws.specs.Telling.{unless_refused, steps_told}
 use Rattle.step_laws.specs.Laws.{StepsTold}
-
-lines-append : (xs ys : List BlockStep) → step_lines (map plain_of (xs ++ ys)) ≡ step_lines (map plain_of xs) ++ step_lines (map plain_of ys)
-lines-append xs ys = ap step_lines (map-append plain_of xs ys) ∙ flat_map-append step_line (map plain_of xs) (map plain_of ys)
 
 -- one block's steps, and those after it where it is not refused
 one_more : (r : Option Refusal) (here later : List BlockStep) (more : Told) → more.text ≡ step_lines (map plain_of later)

@@ -1,4 +1,4 @@
-use Rattle.step_laws.proofs.ScratchFacts.{step_text_from_scratch}
+use Rattle.step_laws.proofs.public.ScratchFacts.{step_text_from_scratch}
 use Rattle.step_laws.proofs.step_text_from_scratch.Goals as goal
 
 pub returns : goal.returns

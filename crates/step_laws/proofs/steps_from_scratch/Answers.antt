@@ -1,4 +1,4 @@
-use Rattle.step_laws.proofs.ScratchFacts.{steps_from_scratch}
+use Rattle.step_laws.proofs.public.ScratchFacts.{steps_from_scratch}
 use Rattle.step_laws.proofs.steps_from_scratch.Goals as goal
 
 pub returns : goal.returns

@@ -1,5 +1,5 @@
 -- The steps of a run from nothing lead a client to the head of the order from scratch.
-use Rattle.std.proofs.Common.{◌≡◌, inl, ℕ, List, [], ◌∷◌, ◌++◌, reverse, Option, Some, None, refl, sym, ◌∙◌, ap, subst}
+use Rattle.std.proofs.Common.{◌≡◌, inl, List, reverse, Option, Some, None, refl, sym, ◌∙◌, ap, subst}
 use Rattle.std.specs.List.{AllByRecursion}
 use Rattle.block_record.proofs.public.ListFacts.{all_reverse}
 use Rattle.block_record.specs.declared.blocks.Slip.{Slip}
@@ -11,9 +11,10 @@ use Rattle.chain_laws.proofs.public.Growth.{IsFound, all_weaker}
 use Rattle.fire_lines.specs.declared.faults.LineFault.{LineFault}
 use Rattle.fire_lines.specs.Text.{received}
 use Rattle.relay_model.specs.Worlds.{World}
-use Rattle.relay_model.specs.Soundness.{IsBlock, IsSound}
+use Rattle.relay_model.specs.Soundness.{IsBlock}
 use Rattle.relay_model.specs.Orders.{once, linked_order}
 use Rattle.relay_model.specs.Runs.{run}
+use Rattle.relay_model.proofs.public.Sound.{empty_sound}
 use Rattle.relay_laws.specs.Laws.{Matches, MatchesTip, IsOrderly}
 use Rattle.relay_laws.proofs.RunSteps.{run_of}
 use Rattle.relay_laws.proofs.Scratch.{tip_from_scratch}
@@ -40,10 +41,6 @@ same_head newest order history m tip =
     path None found = refl
     path (Some s) found = tip.paths s (found s refl)
 
--- a world in which nothing came yet is sound
-pub new_sound : (first : ℕ) → IsSound (new_world first)
-new_sound first = (run_of first 0 step_limits [] tt refl tt).sound
-
 pub steps_from_scratch : StepsFromScratch
 steps_from_scratch first slips blocks none o =
     let w0 = new_world first in
@@ -56,7 +53,7 @@ steps_from_scratch first slips blocks none o =
     let newest = (run w0 offers).history in
     let matches = from_scratch first 0 step_limits offers orderly in
     let same = same_head newest order sound.history matches (tip_from_scratch first 0 step_limits offers orderly) in
-    let follows = steps_follow slips w0 None no_place (new_sound first) blocks tt tt in
+    let follows = steps_follow slips w0 None no_place (empty_sound first 0 step_limits) blocks tt tt in
     let held : AllByRecursion (λ x. IsFound newest x.slip) (steps_told slips w0 no_place) =
     subst (λ (w : World). AllByRecursion (λ x. IsFound w.history x.slip) (steps_told slips w0 no_place)) is.left follows.held in
     record {
