@@ -15,7 +15,7 @@ use Rattle.fire_tool.specs.declared.progress.RunEnd.{RunEnd}
 use Rattle.step_text.specs.Limits.{line_max, new_world}
 use Rattle.step_text.specs.StepText.{Told, StepText, refusal, text_of, tell, prepend, step_text}
 use Rattle.step_text.specs.Taken.{Tells}
-use Rattle.step_text.proofs.RunFacts.{prepend_twice}
+use Rattle.step_text.proofs.public.RunFacts.{prepend_twice}
 use Rattle.fire_tool.specs.Telling.{IsUnderWay, IsEnded, ReadsPiece, end_for, ending_seen}
 
 -- a fact that holds, at an error

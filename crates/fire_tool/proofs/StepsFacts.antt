@@ -9,7 +9,7 @@ use Rattle.outer_world.specs.Told.{Gains, Grows, GrowsByFront, Took}
 use Rattle.outer_world.proofs.Fronts.{grows_twice}
 use Rattle.outer_world.proofs.TakenFacts.{gains_none, took_more}
 use Rattle.fire_lines.specs.Reader.{ReaderState}
-use Rattle.step_laws.proofs.ScratchFacts.{step_text_from_scratch}
+use Rattle.step_laws.proofs.public.ScratchFacts.{step_text_from_scratch}
 use Rattle.fire_tool.specs.declared.progress.RunEnd.{RunEnd}
 use Rattle.fire_tool.specs.declared.steps.Ended.{Ended}
 use Rattle.fire_tool.specs.declared.steps.StepsStop.{StepsStop}

@@ -34,7 +34,7 @@ use Rattle.block_relay.specs.Chronicle.{Told as ToldOf, world_told}
 use Rattle.step_text.specs.declared.refusals.Refusal.{Refusal}
 use Rattle.step_text.specs.StepText.{Told, place_by, prepend, refusal_of, step_line, step_lines, steps_by, tell}
 use Rattle.step_text.specs.Taken.{IsTaken, Tells}
-use Rattle.step_text.proofs.RunFacts.{told_refusal}
+use Rattle.step_text.proofs.public.RunFacts.{told_refusal}
 use Rattle.fire_tool.specs.Following.{IsFollowed, admits}
 
 -- a place goes on to fit as the history grows

@@ -2,7 +2,7 @@ use Rattle.std.proofs.Common.{rules, sym, ◌∙◌, ap, subst, ◌≡◌, ◌�
 use Rattle.block_record.specs.Slips.{slip}
 use Rattle.step_text.specs.StepText.{tell, prepend}
 use Rattle.step_text.specs.Taken.{IsTaken}
-use Rattle.step_text.proofs.RunFacts.{told_on}
+use Rattle.step_text.proofs.public.RunFacts.{told_on}
 use Rattle.fire_tool.proofs.TellFacts.{none_of, tells_refused, nothing_left}
 use Rattle.fire_tool.proofs.following.Follower.tell.Goals as goal
 
