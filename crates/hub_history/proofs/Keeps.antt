@@ -15,8 +15,9 @@ use Rattle.hub_history.specs.Chronicles.{Covers}
 use Rattle.hub_history.specs.declared.view.View.{View}
 use Rattle.hub_history.specs.declared.view.Stage.{Stage}
 use Rattle.hub_history.specs.declared.view.Stage.TheVariants.{Idle, Waits, Runs, Ends}
-use Rattle.hub_history.specs.Turns.{FitsStage, HasTicket, FitsSeat, IsHome, IsOut, KeepsTurns, SeatState, with_stage, with_over, idle_view, opening_view, new_view, joined_view, spent_view}
+use Rattle.hub_history.specs.Turns.{FitsStage, HasTicket, FitsSeat, IsHome, IsOut, KeepsTurns, SeatState, drawn_by, with_stage, with_ticket, with_over, given_view, opening_view, new_view, shared_view, joined_view, spent_view}
 use Rattle.hub_history.specs.Tells.{Draws, Learns, Finds, Takes, Arrives, Raises}
+use Rattle.hub_history.proofs.DrawnFacts.{drawn_same, drawn_more, drawn_longer, drawn_joined, drawn_at_most, drawn_alone, sole_stays, sole_longer}
 use Rattle.hub_history.proofs.Prefixes.{prefix_self, prefix_trans, prefix_shorter, longer_is, covers_self, covers_trans, covers_later}
 use Rattle.hub_history.proofs.Stays.{set_there, seats_stay, has_next, held_moves, held_stays, stands_more, stands_next, ticket_of, is_running, place_stays, place_longer, unmoved}
 
@@ -57,8 +58,8 @@ lead_same i id other leader true f far is = absurd (far (is ∙ sym (f refl)))
 lead_same i id other leader false f far is = is
 
 -- what was found when the seat waited was found by the seat that it was before
-pub finds_before : {E : Type 0} (marked : E → Bool) (v w : View E) (t : ℕ) (found l : List E) → w ≡ with_stage (Waits t) v → found ≡ l → Finds marked w found → Finds marked v l
-finds_before marked v w t found l is same f = let g : Finds marked (with_stage (Waits t) v) found = subst (λ u. Finds marked u found) is f in let h : Finds marked v found = g in subst (Finds marked v) same h
+pub finds_before : {E : Type 0} (marked : E → Bool) (v w : View E) (t : ℕ) (found l : List E) → w ≡ with_ticket t v → found ≡ l → Finds marked w found → Finds marked v l
+finds_before marked v w t found l is same f = let g : Finds marked (with_ticket t v) found = subst (λ u. Finds marked u found) is f in let h : Finds marked v found = g in subst (Finds marked v) same h
 
 -- an idle seat has no ticket
 idle_hand : {E : Type 0} (v : View E) (serving t : ℕ) (P : Type 0) → v.stage ≡ Idle → HasTicket serving t v.stage → P
@@ -93,13 +94,15 @@ module _ {T E : Type 0} (list : T → List E) (marked : E → Bool) where
   restaged now serving tickets owner leader id v st k s = record { stands = s; seen = k.seen; first_old = k.first_old; second_old = k.second_old; longest = k.longest; leads = k.leads; one_led = k.one_led; over = k.over }
 
   -- a ticket is drawn
-  drawn : (s : St) (r : Rule s) (id old : ℕ) (me : SeatState T E) → get_elem? s.views id ≡ some me.0 → me.0.stage ≡ Idle → r.tickets ≡ old → old < 2 ^ 62 → Rule (stepped s 1 (old + 1) id me.1 (with_stage (Waits old) me.0) keeps)
+  drawn : (s : St) (r : Rule s) (id old : ℕ) (me : SeatState T E) → get_elem? s.views id ≡ some me.0 → me.0.stage ≡ Idle → r.tickets ≡ old → old < 2 ^ 62 → Rule (stepped s 1 (old + 1) id me.1 (with_ticket old me.0) keeps)
   drawn s r id old me at idle is small =
       let le : r.serving ≤ r.tickets = r.order in
       let owner : ℕ → ℕ = λ t. cond (eqb t old) id (r.owner t) in
       let same : (t : ℕ) → t < r.tickets → owner t ≡ r.owner t = λ t lt. let ne : ¬ (t ≡ old) = λ e. omega arith in ap (λ b. cond b id (r.owner t)) (ne_eqb t old ne) in
       let more : (j : ℕ) (v : View E) → FitsIn s r j v → (st : Stage E) → FitsStage r.now r.serving (old + 1) owner j st → FitsSeat marked r.now r.serving (old + 1) owner r.leader j (with_stage st v) =
       λ j v k st stands. record { stands = stands; seen = k.seen; first_old = k.first_old; second_old = k.second_old; longest = k.longest; leads = k.leads; one_led = k.one_led; over = λ o. let full = k.over o in absurd (omega arith) } in
+      let drew : (v : View E) → FitsIn s r id v → FitsStage r.now r.serving (old + 1) owner id (Waits old) → FitsSeat marked r.now r.serving (old + 1) owner r.leader id (with_ticket old v) =
+      λ v k stands. let m = more id v k (Waits old) stands in record { stands = m.stands; seen = m.seen; first_old = m.first_old; second_old = m.second_old; longest = m.longest; leads = m.leads; one_led = m.one_led; over = m.over } in
       record {
         serving = r.serving;
         tickets = old + 1;
@@ -109,13 +112,15 @@ module _ {T E : Type 0} (list : T → List E) (marked : E → Bool) where
         words_are = ap (λ ws. set ws 1 (old + 1)) r.words_are;
         order = omega arith;
         limit = omega arith;
+        counted = let more : drawn_by s.views + 1 ≡ drawn_by (set s.views id (with_ticket old me.0)) = drawn_more s.views id me.0 (with_ticket old me.0) at refl in omega (arith, more, r.counted, is);
+        alone = sole_stays s.views id me.0 (with_ticket old me.0) at (λ sole. sole) r.alone;
         place = place_stays list r.now s.homes s.views id me.0 _ at (λ e. let z : 0 ≡ is_running me.0.stage = ap is_running (sym idle) in omega arith) r.place;
         held = λ t lo hi. dite (ℕ_discrete t old)
-            (λ e. (with_stage (Waits old) me.0, ap (get_elem? (set s.views id (with_stage (Waits old) me.0))) (ap (λ b. cond b id (r.owner t)) (eq-eqb t old e)) ∙ set_there s.views id me.0 (with_stage (Waits old) me.0) at, sym e))
-            (λ ne. let h = held_stays r.serving r.tickets r.owner s.views id me.0 (with_stage (Waits old) me.0) at (λ u h. idle_hand me.0 r.serving u (old ≡ u) idle h) r.held t lo (omega arith) in
-            (h.0, ap (get_elem? (set s.views id (with_stage (Waits old) me.0))) (same t (omega arith)) ∙ h.1, h.2));
-        each_seat = seats_stay (FitsSeat marked r.now r.serving (old + 1) owner r.leader) s.views id (with_stage (Waits old) me.0)
-            (more id me.0 (r.each_seat id me.0 at) (Waits old) (omega arith, omega arith, ap (λ b. cond b id (r.owner old)) (eq-eqb old old refl)))
+            (λ e. (with_ticket old me.0, ap (get_elem? (set s.views id (with_ticket old me.0))) (ap (λ b. cond b id (r.owner t)) (eq-eqb t old e)) ∙ set_there s.views id me.0 (with_ticket old me.0) at, sym e))
+            (λ ne. let h = held_stays r.serving r.tickets r.owner s.views id me.0 (with_ticket old me.0) at (λ u h. idle_hand me.0 r.serving u (old ≡ u) idle h) r.held t lo (omega arith) in
+            (h.0, ap (get_elem? (set s.views id (with_ticket old me.0))) (same t (omega arith)) ∙ h.1, h.2));
+        each_seat = seats_stay (FitsSeat marked r.now r.serving (old + 1) owner r.leader) s.views id (with_ticket old me.0)
+            (drew me.0 (r.each_seat id me.0 at) (omega arith, omega arith, ap (λ b. cond b id (r.owner old)) (eq-eqb old old refl)))
             (λ j v _ e. let k = r.each_seat j v e in more j v k v.stage (stands_more r.now r.serving r.tickets (old + 1) r.owner owner j (omega arith) same v.stage k.stands));
       }
 
@@ -130,6 +135,8 @@ module _ {T E : Type 0} (list : T → List E) (marked : E → Bool) where
     words_are = r.words_are;
     order = r.order;
     limit = r.limit;
+    counted = r.counted ∙ drawn_same s.views id me.0 (with_over me.0) at refl;
+    alone = sole_stays s.views id me.0 (with_over me.0) at (λ sole. sole) r.alone;
     place = place_stays list r.now s.homes s.views id me.0 _ at (λ e. let z : 0 ≡ is_running me.0.stage = ap is_running (sym idle) in omega arith) r.place;
     held = held_stays r.serving r.tickets r.owner s.views id me.0 (with_over me.0) at (λ t h. h) r.held;
     each_seat = seats_stay (FitsIn s r) s.views id (with_over me.0)
@@ -141,13 +148,14 @@ module _ {T E : Type 0} (list : T → List E) (marked : E → Bool) where
   draws slots id old me small idle s r _ at _ =
       let n : ℕ = get_or s.words 1 0 in let is : n ≡ r.tickets = ap (λ ws. get_or ws 1 0) r.words_are in let limit : r.tickets ≤ 2 ^ 62 = r.limit in
       let told = Draws (step slots 1 old (old + 1) none) me in
+      let some_drawn : me.0.drawn ≤ r.tickets = let m = drawn_at_most s.views id me.0 at in omega (arith, m, r.counted) in
       exchanged n old (old + 1) (Goes s 1 id me told)
       (λ hit. let full : me.0.over ≡ true → n ≡ 2 ^ 62 = λ o. is ∙ (r.each_seat id me.0 at).over o in (
-        with_stage (Waits old) me.0,
+        with_ticket old me.0,
         keeps,
         tt,
         drawn s r id old me at idle (sym is ∙ hit) small,
-        (refl, omega arith, (λ _. (ap (λ t. with_stage (Waits t) me.0) (sym hit), not_over me.0.over (λ o. let f = full o in omega arith))), λ miss. absurd (miss hit)),
+        (refl, omega arith, (λ _. (ap (λ t. with_ticket t me.0) (sym hit), not_over me.0.over (λ o. let f = full o in omega arith), omega (arith, some_drawn, is, hit, small))), λ miss. absurd (miss hit)),
       ))
       (λ miss. dite (ℕ_discrete n (2 ^ 62))
       (λ full. (
@@ -155,7 +163,7 @@ module _ {T E : Type 0} (list : T → List E) (marked : E → Bool) where
         keeps,
         tt,
         subst (λ (ws : List ℕ). Rule record { words = ws; homes = s.homes; views = set s.views id (with_over me.0) }) (sym (set-get_or s.words 1 0)) (filled s r id me at idle (sym is ∙ full)),
-        (refl, omega arith, (λ hit. absurd (miss hit)), λ _. ((λ _. refl), λ more. absurd (more full))),
+        (refl, omega arith, (λ hit. absurd (miss hit)), λ _. ((λ _. (refl, λ sole. drawn_alone s.views id me.0 at (r.alone id me.0 at sole) ∙ (sym r.counted ∙ (sym is ∙ full)))), λ more. absurd (more full))),
       ))
       (λ more. stands s r 1 id me told at (refl, omega arith, (λ hit. absurd (miss hit)), λ _. ((λ full. absurd (more full)), λ _. refl))))
 
@@ -189,6 +197,8 @@ module _ {T E : Type 0} (list : T → List E) (marked : E → Bool) where
     words_are = r.words_are;
     order = r.order;
     limit = r.limit;
+    counted = r.counted ∙ drawn_same s.views id me.0 (with_stage st me.0) at refl;
+    alone = sole_stays s.views id me.0 (with_stage st me.0) at (λ sole. sole) r.alone;
     place = place;
     held = held_stays r.serving r.tickets r.owner s.views id me.0 (with_stage st me.0) at hand r.held;
     each_seat = seats_stay (FitsIn s r) s.views id (with_stage st me.0) (restaged r.now r.serving r.tickets r.owner r.leader id me.0 st (r.each_seat id me.0 at) may) (λ j v _ e. r.each_seat j v e);
@@ -248,7 +258,7 @@ module _ {T E : Type 0} (list : T → List E) (marked : E → Bool) where
       let below : r.serving < r.tickets = may.0 in let limit : r.tickets ≤ 2 ^ 62 = r.limit in
       let fits : (n + 1) % 2 ^ 64 ≡ r.serving + 1 = mod-eq_of_lt (omega arith) ∙ ap (λ (z : ℕ). z + 1) is in
       let on : IsPrefix r.now (list x) = subst (λ l. IsPrefix l (list x)) may.2 grows in
-      let w : View E = idle_view (list x) me.0.leads me.0.over in
+      let w : View E = given_view (list x) me.0 in
       let later : (v : View E) → IsPrefix v.seen r.now → IsPrefix v.seen (list x) = λ v p. prefix_trans v.seen r.now (list x) p on in (
         w,
         gives,
@@ -262,6 +272,8 @@ module _ {T E : Type 0} (list : T → List E) (marked : E → Bool) where
           words_are = ap (λ z. set s.words 0 z) fits ∙ ap (λ ws. set ws 0 (r.serving + 1)) r.words_are;
           order = omega arith;
           limit = r.limit;
+          counted = r.counted ∙ drawn_same s.views id me.0 w at refl;
+          alone = sole_stays s.views id me.0 w at (λ sole. sole) r.alone;
           place = inl (x, homes_back s.homes me.1 x (slot_out s r id me at runs) has, refl);
           held = held_moves r.serving (r.serving + 1) r.tickets r.owner s.views id me.0 w (omega arith) at
               (λ t lo h. let e : t ≡ r.serving = subst (HasTicket r.serving t) runs h in absurd (omega arith)) (λ t st lo h. has_next r.serving t st lo h) r.held;
@@ -282,14 +294,18 @@ module _ {T E : Type 0} (list : T → List E) (marked : E → Bool) where
                 over = q.over;
               });
         },
-        λ y e. let same : x ≡ y = one_item me.1 x y has e in ((λ i. idle_view (list (same i)) me.0.leads me.0.over), ap rest has),
+        λ y e. let same : x ≡ y = one_item me.1 x y has e in ((λ i. given_view (list (same i)) me.0), ap rest has),
       )
 
   -- a new seat with an idle view
-  pub splits : (id : ℕ) (v : View E) → Splits Rule id v v (new_view v)
-  splits id v s r at =
-      let k = r.each_seat id v at in
-      subst (λ (vs : List (View E)). Rule record { words = s.words; homes = s.homes; views = vs ++ new_view v ∷ [] }) (sym (set_again s.views id v at)) record {
+  pub splits : (id : ℕ) (v : View E) → v.stage ≡ Idle → Splits Rule id v (shared_view v) (new_view v)
+  splits id v idle s r at =
+      let k = r.each_seat id v at in let left : View E = shared_view v in
+      let mine : FitsIn s r id left = record { stands = k.stands; seen = k.seen; first_old = k.first_old; second_old = k.second_old; longest = k.longest; leads = k.leads; one_led = k.one_led; over = k.over } in
+      let fresh : (j : ℕ) → FitsIn s r j (new_view v) =
+      λ j. record { stands = tt; seen = k.seen; first_old = (r.now, refl); second_old = (r.now, refl); longest = (zero-le, zero-le); leads = λ l. absurd (true≢false (sym l)); one_led = refl; over = k.over } in
+      let no_run : is_running v.stage ≢ 1 = λ z. let y : 0 ≡ is_running v.stage = ap is_running (sym idle) in omega arith in
+      record {
         serving = r.serving;
         tickets = r.tickets;
         now = r.now;
@@ -298,10 +314,12 @@ module _ {T E : Type 0} (list : T → List E) (marked : E → Bool) where
         words_are = r.words_are;
         order = r.order;
         limit = r.limit;
-        place = place_longer list r.now s.homes s.views (new_view v) r.place;
-        held = λ t lo hi. let h = r.held t lo hi in (h.0, at_longer s.views (new_view v ∷ []) (r.owner t) h.0 h.1, h.2);
-        each_seat = λ j u e. ⊎_elim (r.each_seat j u) (λ (is : new_view v ≡ u). subst (FitsIn s r j) is
-            record { stands = tt; seen = k.seen; first_old = (r.now, refl); second_old = (r.now, refl); longest = (zero-le, zero-le); leads = λ l. absurd (true≢false (sym l)); one_led = refl; over = k.over }) (at_snoc s.views (new_view v) u j e);
+        counted = r.counted ∙ (drawn_same s.views id v left at refl ∙ drawn_longer (set s.views id left) (new_view v) refl);
+        alone = sole_longer (set s.views id left) id left (new_view v) (set_there s.views id v left at) refl refl (sole_stays s.views id v left at (λ sole. absurd (true≢false (sym sole))) r.alone);
+        place = place_longer list r.now s.homes (set s.views id left) (new_view v) (place_stays list r.now s.homes s.views id v left at no_run r.place);
+        held = λ t lo hi. let h = held_stays r.serving r.tickets r.owner s.views id v left at (λ u h. h) r.held t lo hi in (h.0, at_longer (set s.views id left) (new_view v ∷ []) (r.owner t) h.0 h.1, h.2);
+        each_seat = λ j u e. ⊎_elim (seats_stay (FitsIn s r) s.views id left mine (λ i x _ ex. r.each_seat i x ex) j u) (λ (is : new_view v ≡ u). subst (FitsIn s r j) is (fresh j))
+            (at_snoc (set s.views id left) (new_view v) u j e);
       }
 
   pub joins : (id : ℕ) (v : View E) (other : ℕ) (w : View E) → v.stage ≡ Idle → w.stage ≡ Idle → Joins Rule id v other w (joined_view v w) spent_view
@@ -335,6 +353,8 @@ module _ {T E : Type 0} (list : T → List E) (marked : E → Bool) where
         words_are = r.words_are;
         order = r.order;
         limit = r.limit;
+        counted = r.counted ∙ drawn_joined s.views id other v w b spent_view at at' refl refl;
+        alone = sole_stays (set s.views id b) other w spent_view at' (λ sole. absurd (true≢false (sym sole))) (sole_stays s.views id v b at (λ sole. absurd (true≢false (sym sole))) r.alone);
         place = place_stays list r.now s.homes (set s.views id b) other w spent_view at' (no_run w idle') (place_stays list r.now s.homes s.views id v b at (no_run v idle) r.place);
         held = held_stays r.serving r.tickets r.owner (set s.views id b) other w spent_view at' (λ t h. idle_hand w r.serving t ⊥ idle' h)
             (held_stays r.serving r.tickets r.owner s.views id v b at (λ t h. h) r.held);
@@ -363,6 +383,8 @@ module _ {T E : Type 0} (list : T → List E) (marked : E → Bool) where
     words_are = refl;
     order = le_refl 0;
     limit = zero-le;
+    counted = refl;
+    alone = λ j v e sole. refl;
     place = inl (x, refl, refl);
     held = λ t lo hi. absurd (omega arith);
     each_seat = λ j v e. ⊎_elim (λ (none : get_elem? [] j ≡ some v). absurd (some-ne-none v (sym none)))
@@ -386,7 +408,7 @@ module _ {T E : Type 0} (list : T → List E) (marked : E → Bool) where
 
   -- what the last turn takes out is what the seat found
   pub last_finds : (ws : List ℕ) (xs : List (Maybe T)) (id t : ℕ) (v w u : View E) (found : List E) (y : T) → v.stage ≡ Ends found → Final (Seen Rule id v) ws xs → get_elem? xs 0 ≡ some (Some y)
-      → w ≡ with_stage (Waits t) u → Finds marked w found → Finds marked u (list y)
+      → w ≡ with_ticket t u → Finds marked w found → Finds marked u (list y)
   last_finds ws xs id t v w u found y ended last there waits finds =
       let x = closes ws xs id v found ended last in
       let same = some-injective _ _ (sym there ∙ x.1) in

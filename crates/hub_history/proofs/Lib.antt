@@ -1,3 +1,4 @@
+pub mod DrawnFacts
 pub mod Keeps
 pub mod Prefixes
 pub mod Stays

@@ -1,10 +1,10 @@
 -- What each kind of step tells the pass that takes it.
-use Rattle.std.specs.Prelude.{◌≡◌, ◌≢◌, ℕ, ◌^◌, ◌≤◌, Bool, true, false, List, [], ◌∷◌, Option, Some}
+use Rattle.std.specs.Prelude.{◌≡◌, ◌≢◌, ℕ, ◌^◌, ◌<◌, ◌≤◌, Bool, true, false, List, [], ◌∷◌, Option, Some}
 use mathlib.Core.List.{IsPrefix}
 use Rattle.atomic_table.specs.Table.{Step}
 use Rattle.atomic_table.specs.declared.shared.Seat.{Seat}
 use Rattle.hub_history.specs.Chronicles.{Covers}
-use Rattle.hub_history.specs.Turns.{SeatState, with_stage, with_over, idle_view}
+use Rattle.hub_history.specs.Turns.{SeatState, with_stage, with_ticket, with_over, given_view}
 use Rattle.hub_history.specs.declared.view.View.{View}
 use Rattle.hub_history.specs.declared.view.Stage.TheVariants.{Waits, Runs, Ends}
 
@@ -17,11 +17,11 @@ abbrev pub Finds : {E : Type 0} → (E → Bool) → View E → List E → Type 
 Finds marked v found = IsPrefix v.seen found × (v.leads ≡ true → Covers marked v.seen found)
 
 module _ {T E : Type 0} where
-  -- draw: the ticket was drawn, or all were, or another seat came first
+  -- draw: the ticket was drawn, or all were, of which a sole seat drew each, or another seat came first
   abbrev pub Draws : Step (Option T) → SeatState T E → ℕ → SeatState T E → Type 0
   Draws st me word me' = (me'.1 ≡ me.1) × (word ≤ 2 ^ 62)
-      × (word ≡ st.first → (me'.0 ≡ with_stage (Waits word) me.0) × (me.0.over ≡ false))
-      × (word ≢ st.first → (word ≡ 2 ^ 62 → me'.0 ≡ with_over me.0) × (word ≢ 2 ^ 62 → me'.0 ≡ me.0))
+      × (word ≡ st.first → (me'.0 ≡ with_ticket word me.0) × (me.0.over ≡ false) × (me.0.drawn < 2 ^ 62))
+      × (word ≢ st.first → (word ≡ 2 ^ 62 → (me'.0 ≡ with_over me.0) × (me.0.sole ≡ true → me.0.drawn ≡ 2 ^ 62)) × (word ≢ 2 ^ 62 → me'.0 ≡ me.0))
 
   -- learn: the lists that were joined begin what was seen, and not both passes led
   abbrev pub Learns : Step (Option T) → SeatState T E → ℕ → SeatState T E → Type 0
@@ -40,4 +40,4 @@ module _ {T E : Type 0} (list : T → List E) (marked : E → Bool) where
 
   -- give back and raise: the value is in the slot, and its list was seen
   abbrev pub Raises : Step (Option T) → SeatState T E → ℕ → SeatState T E → Type 0
-  Raises st me word me' = (x : T) → me.1 ≡ (0, Some x) ∷ [] → (me'.0 ≡ idle_view (list x) me.0.leads me.0.over) × (me'.1 ≡ [])
+  Raises st me word me' = (x : T) → me.1 ≡ (0, Some x) ∷ [] → (me'.0 ≡ given_view (list x) me.0) × (me'.1 ≡ [])

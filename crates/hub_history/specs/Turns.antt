@@ -2,12 +2,14 @@
 -- Word 0 is the ticket that is served, and word 1 the number of tickets drawn. The slot has the value.
 --
 -- Kinds of step on them:
---   draw: compare and exchange of word 1 from t to t + 1; the ticket is t, or all tickets are found to be drawn
+--   draw: compare and exchange of word 1 from t to t + 1; the ticket is t, or all tickets are found to be drawn. The
+--     pass counts it
 --   load: of word 0; where it is the pass's ticket, the pass is in turn, and finds the list of the value
 --   take: the value leaves the slot, in the same step as that load; the last turn, which closes, leaves it there
 --   give back: the value returns to the slot, in the same step as the raise
 --   raise: one is added to word 0; the pass has no ticket, and has seen the list of the value
---   split, join: a new pass that knows as much and does not lead; one pass with the longer list of two
+--   split, join: a new pass that knows as much, drew no ticket and does not lead; one pass with the longer list of two
+--     and the tickets of both
 --   learn: a pass learns that the two lists which it joined begin the one that it has
 --
 -- What holds between any two of them:
@@ -19,7 +21,9 @@
 --   6. at most one pass leads, and of that list it has seen all marked entries (`leads`, `one_led`)
 --   7. a pass in turn that does not lead puts a value back with no more marked entries than it found: a step that
 --      gives back and raises at once owes it, and no state lies between
-use Rattle.std.specs.Prelude.{◌≡◌, ◌⊎◌, ℕ, ◌^◌, ◌<◌, ◌≤◌, Bool, true, false, ◌||◌, ◌&&◌, List, [], ◌∷◌, length, Option, Some}
+--   8. the tickets drawn are those that all passes drew, also those that were dropped (`counted`), and a pass that
+--      is sole is the only one that was made (`alone`)
+use Rattle.std.specs.Prelude.{◌≡◌, ◌⊎◌, ℕ, ◌+◌, ◌^◌, ◌<◌, ◌≤◌, Bool, true, false, ◌||◌, ◌&&◌, List, [], ◌∷◌, length, Option, Some}
 use mathlib.Core.Option.{some, none}
 use mathlib.Core.Option as maybe
 use mathlib.Core.List.{IsPrefix}
@@ -49,6 +53,16 @@ module _ {E : Type 0} where
   -- each ticket from the served one on that was drawn is out with its owner
   abbrev pub AreOut : ℕ → ℕ → (ℕ → ℕ) → List (View E) → Type 0
   AreOut serving tickets owner views = (t : ℕ) → serving ≤ t → t < tickets → (v : View E) × (get_elem? views (owner t) ≡ some v) × HasTicket serving t v.stage
+
+module _ {E : Type 0} where
+  -- how many tickets the seats drew
+  abbrev pub drawn_by : List (View E) → ℕ
+  drawn_by [] = 0
+  drawn_by (v ∷ vs) = v.drawn + drawn_by vs
+
+  -- a seat that is sole is the only one
+  abbrev pub AreSole : List (View E) → Type 0
+  AreSole views = (j : ℕ) (v : View E) → get_elem? views j ≡ some v → v.sole ≡ true → length views ≡ 1
 
 -- what is so of one seat and its view
 pub record FitsSeat {E : Type 0} (marked : E → Bool) (now : List E) (serving tickets : ℕ) (owner : ℕ → ℕ) (leader seat : ℕ) (v : View E) : Type 0 where
@@ -80,6 +94,8 @@ pub record KeepsTurns {T E : Type 0} (list : T → List E) (marked : E → Bool)
   pub words_are : s.words ≡ serving ∷ tickets ∷ []
   pub order : serving ≤ tickets
   pub limit : tickets ≤ 2 ^ 62
+  pub counted : tickets ≡ drawn_by s.views
+  pub alone : AreSole s.views
   pub place : IsHome list now s.homes ⊎ IsOut now s.homes s.views
   pub held : AreOut serving tickets owner s.views
   pub each_seat : (j : ℕ) (v : View E) → get_elem? s.views j ≡ some v → FitsSeat marked now serving tickets owner leader j v
@@ -89,29 +105,41 @@ module _ {E : Type 0} where
   abbrev pub with_stage : Stage E → View E → View E
   with_stage st v = record v { stage = st }
 
+  -- the view of a seat that drew this ticket
+  abbrev pub with_ticket : ℕ → View E → View E
+  with_ticket t v = record v { stage = Waits t; drawn = v.drawn + 1 }
+
   -- the view of a seat that knows that all tickets were drawn
   abbrev pub with_over : View E → View E
   with_over v = record v { over = true }
 
-  -- the view of a seat with no ticket that has seen this list
-  abbrev pub idle_view : List E → Bool → Bool → View E
-  idle_view seen leads over = record { stage = Idle; seen = seen; first_old = []; second_old = []; leads = leads; both_led = false; over = over }
+  -- the view of a seat that gave the value back, of which this is the list
+  abbrev pub given_view : List E → View E → View E
+  given_view seen v = record v { stage = Idle; seen = seen; first_old = []; second_old = []; both_led = false }
 
-  -- the first seat's view: it has seen the whole list, and leads
+  -- the view of a seat with no ticket that has seen this list, and drew none
+  abbrev pub idle_view : List E → Bool → Bool → Bool → View E
+  idle_view seen leads over sole = record { stage = Idle; seen = seen; first_old = []; second_old = []; leads = leads; both_led = false; over = over; drawn = 0; sole = sole }
+
+  -- the first seat's view: it has seen the whole list, leads, and is the only one
   abbrev pub opening_view : List E → View E
-  opening_view seen = idle_view seen true false
+  opening_view seen = idle_view seen true false true
 
   -- the view of a seat that is split off
   abbrev pub new_view : View E → View E
-  new_view v = idle_view v.seen false v.over
+  new_view v = idle_view v.seen false v.over false
+
+  -- the view of the seat that it was split off from
+  abbrev pub shared_view : View E → View E
+  shared_view v = record v { sole = false }
 
   -- the view of a seat that takes another in
   abbrev pub joined_view : View E → View E → View E
-  joined_view v w = record { stage = v.stage; seen = longer_of v.seen w.seen; first_old = v.seen; second_old = w.seen; leads = v.leads || w.leads; both_led = v.leads && w.leads; over = v.over || w.over }
+  joined_view v w = record { stage = v.stage; seen = longer_of v.seen w.seen; first_old = v.seen; second_old = w.seen; leads = v.leads || w.leads; both_led = v.leads && w.leads; over = v.over || w.over; drawn = v.drawn + w.drawn; sole = false }
 
   -- the view of a seat that was taken in
   abbrev pub spent_view : View E
-  spent_view = idle_view [] false false
+  spent_view = idle_view [] false false false
 
 -- a seat's view, and the slots that it has taken
 abbrev pub SeatState : Type 0 → Type 0 → Type 0

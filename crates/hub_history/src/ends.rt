@@ -2,7 +2,7 @@
 ghost use Rattle.std.specs.Prelude.{◌≡◌, ◌^◌, true, false, IfOk, IfErr, IsErr};
 ghost use mathlib.Core.List.{IsPrefix};
 ghost use Rattle.hub_history.specs.Chronicles.{Covers};
-ghost use Rattle.hub_history.specs.Passes.{IsPassOf, seen_of, leads_of, is_over, id_of};
+ghost use Rattle.hub_history.specs.Passes.{FoundAllDrawn, IsFirst, IsPassOf, seen_of, leads_of, is_over, drawn_of, id_of};
 
 use crate::cell::{HubCell, Pass};
 use crate::chronicle::Chronicle;
@@ -27,8 +27,7 @@ impl<V: Chronicle> HubCell<V> {
     pub fn open(alloc: Global, value: V) -> Result<(HubCell<V>, Pass<V>), (V, AllocError)>
         ensures own { IfOk result (λ (cell, pass). IsPassOf cell pass) }
         ensures seen { IfOk result (λ (cell, pass). seen_of pass ≡ V.entries_of value) }
-        ensures leads { IfOk result (λ (cell, pass). leads_of pass ≡ true) }
-        ensures more { IfOk result (λ (cell, pass). is_over pass ≡ false) }
+        ensures first { IfOk result (λ (cell, pass). IsFirst pass) }
         ensures back { IfErr result (λ (left, error). left ≡ value) }
     {
         let about = Snapshot::of(&value);
@@ -67,14 +66,14 @@ impl<V: Chronicle> HubCell<V> {
         ensures marks { IfOk result (λ value. leads_of pass ≡ true
             → Covers V.marked (seen_of pass) (V.entries_of value)) }
 
-        // All tickets were drawn, which the pass then knows, and nothing else changed.
+        // All tickets were drawn, which the pass then knows, and nothing else changed. A pass that
+        // is sole drew them all itself.
         ensures tickets { IfErr result (λ left. left.tickets ≡ 2 ^ 62) }
         ensures cell { IfErr result (λ left. left.cell ≡ self) }
         ensures own { IfErr result (λ left. IsPassOf self left.pass) }
-        ensures seen { IfErr result (λ left. seen_of left.pass ≡ seen_of pass) }
-        ensures leads { IfErr result (λ left. leads_of left.pass ≡ leads_of pass) }
-        ensures over { IfErr result (λ left. is_over left.pass ≡ true) }
+        ensures spent { IfErr result (λ left. FoundAllDrawn pass left.pass) }
         ensures stays { is_over pass ≡ true → IsErr result }
+        ensures full { drawn_of pass ≡ 2 ^ 62 → IsErr result }
     {
         let Some(ticket) = self.draw(rt, &mut pass.seat) else {
             return Err(Unclosed {

@@ -1,8 +1,8 @@
 //! How passes are split off and put together.
-ghost use Rattle.std.specs.Prelude.{◌≡◌, ◌||◌, true, false, length};
+ghost use Rattle.std.specs.Prelude.{◌≡◌, ◌+◌, ◌||◌, true, false, length};
 ghost use mathlib.Core.List.{IsPrefix};
 ghost use Rattle.hub_history.specs.Chronicles.{longer_of};
-ghost use Rattle.hub_history.specs.Passes.{IsPassOf, IsUnchanged, IsCopy, seen_of, leads_of, is_over};
+ghost use Rattle.hub_history.specs.Passes.{IsPassOf, IsUnchanged, IsCopy, seen_of, leads_of, is_over, drawn_of, is_sole};
 
 use crate::cell::{HubCell, Pass};
 use crate::chronicle::Chronicle;
@@ -25,11 +25,12 @@ impl<V: Chronicle> Pass<V> {
 }
 
 impl<V: Chronicle> HubCell<V> {
-    /// A new pass that has seen what this one has, and does not lead.
+    /// A new pass that has seen what this one has, drew no ticket and does not lead.
     pub fn split(&self, pass: &mut Pass<V>) -> Pass<V>
         requires own { IsPassOf self.now pass.old }
         ensures own { IsPassOf self.now pass.new }
         ensures same { IsUnchanged pass.old pass.new }
+        ensures shared { is_sole pass.new ≡ false }
         ensures also_own { IsPassOf self.now result }
         ensures copy { IsCopy pass.old result }
     {
@@ -52,6 +53,7 @@ impl<V: Chronicle> HubCell<V> {
         ensures leads { leads_of pass.new ≡ leads_of pass.old || leads_of other }
         ensures one_leads { leads_of pass.old ≡ true → leads_of other ≡ false }
         ensures over { is_over pass.new ≡ is_over pass.old || is_over other }
+        ensures drawn { drawn_of pass.new ≡ drawn_of pass.old + drawn_of other }
     {
         let Pass { seat, count, lead } = other;
         self.table
@@ -73,6 +75,7 @@ impl<V: Chronicle> HubCell<V> {
         ensures takes_in { IsPrefix (seen_of other.old) (seen_of pass.new) }
         ensures longer { seen_of pass.new ≡ longer_of (seen_of pass.old) (seen_of other.old) }
         ensures leads { leads_of pass.new ≡ leads_of pass.old }
+        ensures drawn { drawn_of pass.new ≡ drawn_of pass.old }
         ensures also_own { IsPassOf self.now other.new }
         ensures same { IsUnchanged other.old other.new }
     {

@@ -1,5 +1,5 @@
 //! The rule of the table, and what each kind of step tells. These types are for the proofs alone.
-ghost use Rattle.hub_history.specs.Turns.{KeepsTurns, opening_view, new_view, joined_view, spent_view};
+ghost use Rattle.hub_history.specs.Turns.{KeepsTurns, opening_view, new_view, shared_view, joined_view, spent_view};
 ghost use Rattle.hub_history.specs.Tells.{Draws, Takes, Arrives, Raises, Learns};
 
 use crate::chronicle::Chronicle;
@@ -60,11 +60,11 @@ impl<V, E> Play<Option<V>, View<E>> for Learn {
     ghost then = { Learns };
 }
 
-/// A new pass that knows as much, and does not lead.
+/// A new pass that knows as much, drew no ticket and does not lead.
 pub struct SplitPass;
 
 impl<E> Split<View<E>> for SplitPass {
-    ghost left = { λ v. v };
+    ghost left = { shared_view };
 
     ghost right = { new_view };
 }

@@ -1,9 +1,9 @@
 //! The steps of one turn on the table: draw a ticket, wait for it and take the value, give it back.
-ghost use Rattle.std.specs.Prelude.{◌≡◌, ◌⊎◌, true, false, List, [], ◌∷◌, None, MatchOption};
+ghost use Rattle.std.specs.Prelude.{◌≡◌, ◌⊎◌, ◌^◌, ◌<◌, true, false, List, [], ◌∷◌, None, MatchOption};
 ghost use mathlib.Core.List.{IsPrefix};
 ghost use Rattle.hub_history.specs.declared.view.Stage.TheVariants.{Idle, Waits, Runs, Ends};
 ghost use Rattle.hub_history.specs.Chronicles.{Covers};
-ghost use Rattle.hub_history.specs.Turns.{with_stage, with_over, idle_view};
+ghost use Rattle.hub_history.specs.Turns.{with_stage, with_ticket, with_over, given_view};
 ghost use Rattle.hub_history.specs.Tells.{Finds, IsSameSeat};
 
 use crate::cell::HubCell;
@@ -30,9 +30,11 @@ impl<V: Chronicle> HubCell<V> {
         requires own { seat.old.table_id ≡ self.now.table.shared.table_id }
         requires idle { seat.old.me.0.stage ≡ Idle }
         ensures own { IsSameSeat seat.old seat.new × (seat.new.me.1 ≡ seat.old.me.1) }
-        ensures told { MatchOption result (seat.new.me.0 ≡ with_over seat.old.me.0)
-            (λ t. (seat.new.me.0 ≡ with_stage (Waits t) seat.old.me.0)
-            × (seat.old.me.0.over ≡ false)) }
+        ensures told { MatchOption result
+            ((seat.new.me.0 ≡ with_over seat.old.me.0)
+            × (seat.old.me.0.sole ≡ true → seat.old.me.0.drawn ≡ 2 ^ 62))
+            (λ t. (seat.new.me.0 ≡ with_ticket t seat.old.me.0)
+            × (seat.old.me.0.over ≡ false) × (seat.old.me.0.drawn < 2 ^ 62)) }
     {
         let mut guess = 0;
         for _ in rt.forever() {
@@ -131,8 +133,7 @@ impl<V: Chronicle> HubCell<V> {
             × (seat.old.me.1 ≡ (0, None) ∷ []) × IsPrefix found (V.entries_of value)
             × ((seat.old.me.0.leads ≡ true) ⊎ Covers V.marked found (V.entries_of value)) }
         ensures own { IsSameSeat seat.old seat.new }
-        ensures told { seat.new.me
-            ≡ (idle_view (V.entries_of value) seat.old.me.0.leads seat.old.me.0.over, []) }
+        ensures told { seat.new.me ≡ (given_view (V.entries_of value) seat.old.me.0, []) }
     {
         match self.table.shared.exchange(seat, 0, Some(value)) {
             None => {}

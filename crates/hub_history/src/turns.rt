@@ -2,7 +2,7 @@
 ghost use Rattle.std.specs.Prelude.{◌≡◌, ◌^◌, ◌⊎◌, true, false, IfOk, IfErr, IsErr, OnOk, OnErr};
 ghost use mathlib.Core.List.{IsPrefix};
 ghost use Rattle.hub_history.specs.Chronicles.{HoldsFrom, Ran};
-ghost use Rattle.hub_history.specs.Passes.{IsPassOf, seen_of, leads_of, is_over, id_of};
+ghost use Rattle.hub_history.specs.Passes.{DrewOne, FoundAllDrawn, IsPassOf, seen_of, leads_of, is_over, drawn_of, id_of};
 
 use crate::cell::{HubCell, Pass};
 use crate::chronicle::{Chronicle, Job};
@@ -39,14 +39,15 @@ impl<V: Chronicle> HubCell<V> {
         ensures ran { IfOk result (λ out. Ran V.marked (leads_of pass.old)
             (seen_of pass.old) (seen_of pass.new)
             (λ before after. J.promises job before after out)) }
-        ensures more { OnOk result (is_over pass.new ≡ false) }
+        ensures drew { OnOk result (DrewOne pass.old pass.new) }
 
-        // All tickets were drawn, which the pass then knows, and nothing ran.
+        // All tickets were drawn, which the pass then knows, and nothing ran. A pass that is sole
+        // drew them all itself.
         ensures tickets { IfErr result (λ spent. spent.tickets ≡ 2 ^ 62) }
         ensures back { IfErr result (λ spent. spent.job ≡ job) }
-        ensures unmoved { OnErr result (seen_of pass.new ≡ seen_of pass.old) }
-        ensures over { OnErr result (is_over pass.new ≡ true) }
+        ensures spent { OnErr result (FoundAllDrawn pass.old pass.new) }
         ensures stays { is_over pass.old ≡ true → IsErr result }
+        ensures full { drawn_of pass.old ≡ 2 ^ 62 → IsErr result }
     {
         let Some(ticket) = self.draw(rt, &mut pass.seat) else {
             return Err(Spent {

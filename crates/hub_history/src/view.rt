@@ -26,4 +26,8 @@ pub struct View<E> {
     pub both_led: bool,
     /// All tickets were drawn.
     pub over: bool,
+    /// How many tickets it drew, and the passes that it took in.
+    pub drawn: u64,
+    /// No other pass of the cell was made.
+    pub sole: bool,
 }
