@@ -386,7 +386,7 @@ all_shown (b ∷ l) none = by_test (all_shown l) (is_visible_byte b) refl
 none_hidden : (l : List ℕ) → position is_hidden l ≡ None → list_all is_visible_byte l ≡ true
 none_hidden l none = all_shown l (none_before l none)
 
-first_none : (o : Option DbinFault) (more : List (Option DbinFault)) → first_of (o ∷ more) ≡ None → (o ≡ None) × (first_of more ≡ None)
+pub first_none : (o : Option DbinFault) (more : List (Option DbinFault)) → first_of (o ∷ more) ≡ None → (o ≡ None) × (first_of more ≡ None)
 first_none None more e = (refl, e)
 first_none (Some f) more e = absurd cc
 

@@ -3,3 +3,4 @@ mod PieceFacts
 mod HeaderFacts
 mod StopFacts
 mod LawFacts
+mod SpelledFacts
