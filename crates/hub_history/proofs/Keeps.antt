@@ -1,5 +1,5 @@
 -- Each step keeps the rule.
-use Rattle.std.proofs.Common.{◌≡◌, ℕ, zero, suc, ◌+◌, ◌%◌, ◌^◌, ◌<◌, ◌≤◌, eqb, ◌≢◌, ◌⊎◌, ◌||◌, ◌&&◌, Bool, true, false, cond, List, [], ◌∷◌, ◌++◌, length, get_or, set, sym, refl, ap, ◌∙◌, subst, ⊎_elim, inl, inr, arith, mod-eq_of_lt, eq-eqb, ne_eqb, le_refl, zero-le, true≢false}
+use Rattle.std.proofs.Common.{◌≡◌, ℕ, zero, suc, ◌+◌, ◌%◌, ◌^◌, ◌<◌, ◌≤◌, eqb, ◌≢◌, ◌⊎◌, ◌||◌, ◌&&◌, Bool, true, false, cond, List, [], ◌∷◌, length, get_or, set, sym, refl, ap, ◌∙◌, subst, ⊎_elim, inl, inr, arith, mod-eq_of_lt, eq-eqb, ne_eqb, le_refl, zero-le, true≢false}
 use mathlib.Core.Logic.{dite}
 use mathlib.Core.Path.{Path}
 use mathlib.Core.Option.{Option, none, some, some-injective, some-ne-none}
@@ -10,7 +10,7 @@ use lib.ListN.{get_elem?}
 use lib.Seq.{set-get_or}
 use Rattle.std.specs.Prelude.{Option as Maybe, Some}
 use Rattle.atomic_table.specs.Table.{State, Act, step, keeps, takes, gives, Valid, carried_after, stepped, Allows, Splits, Joins, Final, Seen, opening, put_back, rest}
-use Rattle.atomic_table.proofs.Lists.{at_snoc, at_longer, set_again, set_else, exchanged}
+use Rattle.atomic_table.proofs.Lists.{at_snoc, at_longer, set_else, exchanged}
 use Rattle.hub_history.specs.Chronicles.{Covers}
 use Rattle.hub_history.specs.declared.view.View.{View}
 use Rattle.hub_history.specs.declared.view.Stage.{Stage}
