@@ -1,10 +1,6 @@
-pub mod OptionFacts
+pub mod public
 mod CalendarFacts
 mod JoinFacts
-mod NumeralFacts
 mod MomentFacts
-mod NameFacts
-mod FileFacts
-pub mod ContainerFacts
-mod HeldFacts
+mod SingleFacts
 mod PutFacts

@@ -13,8 +13,8 @@ use Rattle.one_block.specs.Moments.{is_clock, clock_of, clock_tenths, is_moment,
 use Rattle.one_block.specs.Numerals.{padded, filled_number}
 use Rattle.one_block.specs.Reading.{digits_at, byte_at, day_at, clock_at, moment_named, tenths_named, ◌>>=◌}
 use Rattle.one_block.proofs.CalendarFacts.{IsGood, is_day-good, good-is_day, nth, number_nth, day_number-day_after, day_after-day_number}
-use Rattle.one_block.proofs.OptionFacts.{some_is}
-use Rattle.one_block.proofs.NumeralFacts.{length-padded, filled_number-padded, padded-filled_number}
+use Rattle.one_block.proofs.public.OptionFacts.{some_is}
+use Rattle.one_block.proofs.public.NumeralFacts.{length-padded, filled_number-padded, padded-filled_number}
 
 -- ---- one field
 

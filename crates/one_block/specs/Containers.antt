@@ -4,7 +4,7 @@ use Rattle.std.specs.Option.{option_map, unwrap_or}
 use Rattle.block_record.specs.declared.blocks.Block.{Block}
 use Rattle.block_record.specs.declared.faults.RecordFault.{RecordFault}
 use Rattle.block_record.specs.declared.faults.RecordFault.TheVariants.{BadRecord, Mem}
-use Rattle.block_record.specs.Records.{record_text, record_fault, IsRecordable}
+use Rattle.block_record.specs.Records.{record_fault, IsRecordable, IsRecordText}
 use Rattle.dbin_file.specs.declared.faults.DbinFault.{DbinFault}
 use Rattle.dbin_file.specs.declared.faults.DbinFault.TheVariants as fault
 use Rattle.dbin_file.specs.Contents.{contents, told}
@@ -37,24 +37,20 @@ pub record HasContents (text : List ℕ) (file : FileContents) : Type 0 where
   pub messages : file.messages.items ≡ (contents text).messages
   pub fault : file.fault ≡ container_fault text
 
--- a block is the only one with its record: its ids are ids, and its numbers have 64 bits
-pub record IsReadable (b : Block) : Type 0 where
-  pub recordable : IsRecordable b
-  pub only : (other : Block) → IsRecordable other → record_text b ≡ record_text other → other ≡ b
-
--- a message is the record of this block
+-- a message is a record of this block, in one of the two forms, and of no other block
 pub record IsRecordOf (message : List ℕ) (b : Block) : Type 0 where
-  pub text : message ≡ record_text b
-  pub readable : IsReadable b
+  pub text : IsRecordText message b
+  pub recordable : IsRecordable b
+  pub only : (other : Block) → IsRecordable other → IsRecordText message other → other ≡ b
 
 -- a message is no block's record: this is the place of its first bad field
 pub record IsBadField (message : List ℕ) (byte : ℕ) : Type 0 where
-  pub none : (b : Block) → IsRecordable b → message ≡ record_text b → ⊥
+  pub none : (b : Block) → IsRecordable b → IsRecordText message b → ⊥
   pub fault : record_fault message ≡ Some byte
 
 -- a message that stands at this place is no block's record: its first bad field is there
 pub record IsNoRecord (place : ℕ) (message : List ℕ) (at : ℕ) : Type 0 where
-  pub none : (b : Block) → IsRecordable b → message ≡ record_text b → ⊥
+  pub none : (b : Block) → IsRecordable b → IsRecordText message b → ⊥
   pub byte : ℕ
   pub fault : record_fault message ≡ Some byte
   pub at_is : at ≡ told (place + byte)

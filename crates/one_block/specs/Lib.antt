@@ -8,7 +8,10 @@ pub mod Files
 pub mod Laws
 pub mod Containers
 pub mod OneFiles
-pub mod HeldSteps
+pub mod Forms
+pub mod Heads
+pub mod Singles
+pub mod SingleSteps
 pub mod StoreFaults
 pub mod Puts
 pub mod PutSteps

@@ -1,5 +1,5 @@
 -- The one name of a block's file, and which texts are such names.
-use Rattle.std.specs.Prelude.{ℕ, ◌<◌, ◌^◌, ◌-◌, ◌/◌, ◌==◌, ◌&&◌, nat_le, Bool, IsTrue, List, [], ◌∷◌, length, drop, Option, None, Some, slice_get, option_and_then, if◌then◌else◌}
+use Rattle.std.specs.Prelude.{ℕ, ◌<◌, ◌^◌, ◌-◌, ◌/◌, ◌==◌, ◌&&◌, nat_le, Bool, IsTrue, List, [], ◌∷◌, length, drop, codes, Option, None, Some, slice_get, option_and_then, if◌then◌else◌}
 use Rattle.std.specs.Fmt.{decimal}
 use Rattle.std.specs.List.{slice_split, join_with_byte}
 use Rattle.block_record.specs.declared.blocks.Slip.{Slip}
@@ -7,6 +7,7 @@ use Rattle.block_record.specs.Number.{number_of}
 use Rattle.block_record.specs.Texts.{is_id_text, is_reader_text, IsId, IsReaderName}
 use Rattle.one_block.specs.declared.names.NameParts.{NameParts}
 use Rattle.one_block.specs.Moments.{IsTimely, moment_of, moment_text}
+use Rattle.one_block.specs.Files.{whole_text}
 use Rattle.one_block.specs.Numerals.{padded, filled_number}
 use Rattle.one_block.specs.Reading.{tenths_named, ◌>>=◌}
 
@@ -36,6 +37,10 @@ parts_of s reader = record {
 -- the name of a block's file that this reader writes
 abbrev pub one_block_name : Slip → List ℕ → List ℕ
 one_block_name s reader = name_text (parts_of s reader)
+
+-- the whole name of that file
+abbrev pub own_file : Slip → List ℕ → List ℕ
+own_file s by = whole_text (codes "one") (one_block_name s by)
 
 -- whether a text may be the end of an id: 1 to 16 bytes of ids
 abbrev pub is_id_end : List ℕ → Bool

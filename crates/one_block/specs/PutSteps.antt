@@ -2,43 +2,42 @@
 use Rattle.std.specs.Prelude.{ℕ, ◌≡◌, IsTrue, IsFalse, List, ⊤, Result, Ok, Err}
 use Rattle.block_record.specs.declared.blocks.Slip.{Slip}
 use Rattle.block_record.specs.Slips.{same_slip}
-use Rattle.dbin_file.specs.Contents.{contents}
 use Rattle.one_block.specs.declared.faults.Put.{Put}
 use Rattle.one_block.specs.declared.faults.Put.TheVariants.{Written, Present}
 use Rattle.one_block.specs.declared.faults.StoreFault.{StoreFault}
 use Rattle.one_block.specs.declared.faults.StoreFault.TheVariants.{ShelfFault, ShelfBad, Missing, StoredOther, NameClash, Mem}
-use Rattle.one_block.specs.OneFiles.{HoldsSlip, IsBadAt}
+use Rattle.one_block.specs.Puts.{HoldsSlip, IsBadAt}
 
 -- a file of this name and text holds a block of the same slip
-pub record HoldsSame (name by text : List ℕ) (s : Slip) : Type 0 where
+pub record HoldsSame (by file text : List ℕ) (s : Slip) : Type 0 where
   pub held : Slip
-  pub holds : HoldsSlip name by text held
+  pub holds : HoldsSlip by file text held
   pub same : IsTrue (same_slip held s)
 
 -- or of another
-pub record HoldsOther (name by text : List ℕ) (s held offered : Slip) : Type 0 where
-  pub holds : HoldsSlip name by text held
+pub record HoldsOther (by file text : List ℕ) (s held offered : Slip) : Type 0 where
+  pub holds : HoldsSlip by file text held
   pub offered_is : offered ≡ s
   pub other : IsFalse (same_slip held s)
 
 -- or is bad
-pub record IsBadAs (name by file text : List ℕ) (told_name : List ℕ) (at : ℕ) : Type 0 where
+pub record IsBadAs (by file text : List ℕ) (told_name : List ℕ) (at : ℕ) : Type 0 where
   pub named : told_name ≡ file
-  pub place : IsBadAt name by text (contents text).messages at
+  pub place : IsBadAt by file text at
 
-abbrev pub CompareRefused : List ℕ → List ℕ → List ℕ → List ℕ → Slip → StoreFault → Type 0
-CompareRefused name by file text s ShelfFault = ⊥
-CompareRefused name by file text s (ShelfBad n at) = IsBadAs name by file text n at
-CompareRefused name by file text s (Missing n) = ⊥
-CompareRefused name by file text s (StoredOther kept read) = ⊥
-CompareRefused name by file text s (NameClash held offered) = HoldsOther name by text s held offered
-CompareRefused name by file text s Mem = ⊤
+abbrev pub CompareRefused : List ℕ → List ℕ → List ℕ → Slip → StoreFault → Type 0
+CompareRefused by file text s ShelfFault = ⊥
+CompareRefused by file text s (ShelfBad n at) = IsBadAs by file text n at
+CompareRefused by file text s (Missing n) = ⊥
+CompareRefused by file text s (StoredOther kept read) = ⊥
+CompareRefused by file text s (NameClash held offered) = HoldsOther by file text s held offered
+CompareRefused by file text s Mem = ⊤
 
 abbrev pub CompareDone : List ℕ → List ℕ → List ℕ → Slip → Put → Type 0
-CompareDone name by text s Written = ⊥
-CompareDone name by text s Present = HoldsSame name by text s
+CompareDone by file text s Written = ⊥
+CompareDone by file text s Present = HoldsSame by file text s
 
 -- the answer of a file of this name and text to a block of this slip
-abbrev pub Compares : List ℕ → List ℕ → List ℕ → List ℕ → Slip → Result Put StoreFault → Type 0
-Compares name by file text s (Ok put) = CompareDone name by text s put
-Compares name by file text s (Err fault) = CompareRefused name by file text s fault
+abbrev pub Compares : List ℕ → List ℕ → List ℕ → Slip → Result Put StoreFault → Type 0
+Compares by file text s (Ok put) = CompareDone by file text s put
+Compares by file text s (Err fault) = CompareRefused by file text s fault

@@ -3,8 +3,10 @@
 
 mod containers;
 mod faults;
+mod file_faults;
 mod files;
-mod held;
+mod forms;
+mod heads;
 mod laws;
 mod moments;
 mod names;
@@ -12,15 +14,20 @@ mod parse;
 mod print;
 mod put;
 mod read;
+mod singles;
 
-pub use containers::{FileContents, copy_type, end_place, goes_on, read_contents, read_record};
+pub use containers::{FileContents, copy_type, end_place, read_contents, read_record};
 pub use faults::{Put, StoreFault};
+pub use file_faults::FileFault;
 pub use files::{bare_name, forked_name, merged_base, merged_name, whole_name};
+pub use forms::{Folder, Form, form_of, own_name};
+pub use heads::{decode_at, head_type};
 pub use laws::{files_are_read, names_are_read};
 pub use names::{NameParts, name_of};
 pub use parse::parse_name;
 pub use put::put_block;
 pub use read::read_filled;
+pub use singles::{SingleRead, read_single};
 
 #[cfg(test)]
 mod put_tests;

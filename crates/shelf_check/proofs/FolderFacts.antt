@@ -2,13 +2,22 @@
 use Rattle.std.proofs.Common.{arith, ◌≡◌, ◌<◌, ◌≤◌, ◌+◌, ℕ, suc, List, [], ◌∷◌, ◌++◌, length, reverse, take, drop, get_or, Option, Some, None, Ok, refl, sym, ap, subst, ◌∙◌}
 use Rattle.std.proofs.lemmas.List.{length-map, length-reverse, take_all}
 use Rattle.outer_world.specs.Files.{Files}
-use Rattle.shelf_check.specs.declared.faults.FileFault.{FileFault}
-use Rattle.shelf_check.specs.declared.forms.Folder.{Folder}
-use Rattle.shelf_check.specs.declared.forms.Form.{Form}
-use Rattle.shelf_check.specs.Forms.{form_of}
-use Rattle.shelf_check.specs.Singles.{AnswersBy}
+use Rattle.one_block.specs.declared.file_faults.FileFault.{FileFault}
+use Rattle.one_block.specs.declared.forms.Folder.{Folder}
+use Rattle.one_block.specs.declared.forms.Form.{Form}
+use Rattle.one_block.specs.Forms.{form_of}
+use Rattle.one_block.specs.declared.singles.SingleRead.{SingleRead}
+use Rattle.one_block.specs.Singles.{IsSingleRead}
+use Rattle.shelf_check.specs.Singles.{AnswersBy, SingleAnswers}
 use Rattle.shelf_check.specs.Folders.{HasText, Single, IsSingle, names_of, IsBadFile, IsFirstOf, IsFileRead, IsRefusedFile, AreRead}
 use Rattle.shelf_check.proofs.ListFacts.{taken_more, cut_at}
+
+-- a file whose name has a form, and which was read, is one of the folder
+pub single_taken : (folder : Folder) (name text : List ℕ) (kept : Option (List ℕ)) (form : Form) (read : SingleRead) → form_of folder name ≡ Some form → IsSingleRead form name text kept read
+    → SingleAnswers folder name text kept (Ok read.block_type)
+single_taken folder name text kept form read formed r =
+    let A : Option Form → Type 0 = λ o. AnswersBy o name text kept (Ok read.block_type) in
+    subst A (sym formed) (r.block, r.single)
 
 -- a file that was read
 pub file_read : (folder : Folder) (files : Option Files) (kept : Option (List ℕ)) (name text block_type : List ℕ) → HasText files name text → AnswersBy (form_of folder name) name text kept (Ok block_type) → IsFileRead folder files kept name block_type

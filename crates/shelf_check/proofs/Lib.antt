@@ -1,7 +1,6 @@
 mod ListFacts
 mod ContainerFacts
 mod LinkFacts
-mod SingleFacts
 mod RefusalFacts
 mod FolderFacts
 mod MergedFacts

@@ -1,21 +1,23 @@
 -- The messages of a merged file, one after another.
-use Rattle.std.proofs.Common.{arith, ◌≡◌, ◌<◌, ◌+◌, ◌-◌, ◌^◌, ◌==◌, ◌&&◌, ◌||◌, ◌⊎◌, inl, inr, ℕ, suc, Bool, true, false, not, nat_lt, IsTrue, List, [], ◌∷◌, length, reverse, take, drop, get_or, min, Option, Some, None, refl, sym, ap, subst, ◌∙◌}
+use Rattle.std.proofs.Common.{arith, ◌≡◌, ◌<◌, ◌+◌, ◌-◌, ◌^◌, ◌==◌, ◌&&◌, ◌||◌, ◌⊎◌, inl, inr, ℕ, suc, Bool, true, false, not, nat_lt, IsTrue, List, [], ◌∷◌, ◌++◌, length, take, drop, get_or, min, Option, Some, None, refl, sym, ap, subst, ◌∙◌}
 use Rattle.std.specs.Option.{is_some, option_map, unwrap_or}
 use Rattle.std.proofs.lemmas.Bool.{and_parts}
-use Rattle.std.proofs.lemmas.List.{take_all, length-reverse, length-map}
+use Rattle.std.proofs.lemmas.List.{take_all}
 use Rattle.block_record.specs.declared.blocks.Block.{Block}
 use Rattle.block_record.specs.declared.blocks.BlockRef.{BlockRef}
-use Rattle.block_record.specs.Records.{record_text}
 use Rattle.dbin_file.specs.Contents.{contents, told}
 use Rattle.one_block.specs.Containers.{container_fault, fault_place, record_place, IsNoRecord, HasContents}
 use Rattle.one_block.specs.declared.containers.FileContents.{FileContents}
-use Rattle.shelf_check.specs.declared.faults.FileFault.{FileFault}
-use Rattle.shelf_check.specs.declared.faults.FileFault.TheVariants.{Bad, OtherType, Mem}
-use Rattle.shelf_check.specs.Containers.{AreRecords, HasHead, IsKept}
+use Rattle.one_block.specs.declared.file_faults.FileFault.{FileFault}
+use Rattle.one_block.specs.declared.file_faults.FileFault.TheVariants.{Bad, OtherType, Mem}
+use Rattle.one_block.specs.Heads.{AreRecords, HasHead, IsKept}
 use Rattle.shelf_check.specs.Bundles.{is_next, tip_after, AreNext, place_after, IsNotNext, IsBadMessage, IsBadEnd, IsBundleRead, BundleRefused}
-use Rattle.shelf_check.specs.Steps.{HeadRefused, IsNextRecord, NextRefused, AreLinked, LinkRefused, IsBadAfter, WholeRefused}
-use Rattle.shelf_check.proofs.ListFacts.{taken_more, cut_at}
-use Rattle.shelf_check.proofs.ContainerFacts.{has_head, bad_head, other_type, none_of, not_whole}
+use Rattle.one_block.specs.SingleSteps.{HeadRefused}
+use Rattle.shelf_check.specs.Steps.{IsNextRecord, NextRefused, AreLinked, LinkRefused, IsBadAfter, WholeRefused}
+use Rattle.one_block.proofs.public.HeadFacts.{has_head, bad_head, other_type}
+use Rattle.one_block.proofs.public.RecordFacts.{records_more, length_records}
+use Rattle.shelf_check.proofs.ListFacts.{next_taken, cut_at}
+use Rattle.shelf_check.proofs.ContainerFacts.{none_of, not_whole}
 
 -- messages are linked, and the next one stands at this place
 pub record IsLinkedTo (base first : ℕ) (before : Option BlockRef) (messages : List (List ℕ)) (tip : Option BlockRef) (at : ℕ) : Type 0 where
@@ -23,44 +25,50 @@ pub record IsLinkedTo (base first : ℕ) (before : Option BlockRef) (messages : 
   pub records : AreRecords messages blocks
   pub next : AreNext base before blocks
   pub tip_is : tip ≡ tip_after before blocks
-  pub at_is : at ≡ told (place_after first blocks)
+  pub at_is : at ≡ told (place_after first messages)
 
 pub linked_none : (base first : ℕ) (before : Option BlockRef) (messages : List (List ℕ)) → first < 2 ^ 64 → IsLinkedTo base first before (take 0 messages) before first
-linked_none base first before messages small = record { blocks = []; records = record { texts = refl; readable = tt }; next = tt; tip_is = refl; at_is = omega arith }
+linked_none base first before messages small = record { blocks = []; records = record { records = tt }; next = tt; tip_is = refl; at_is = omega arith }
 
 told_more : (x y : ℕ) → min (min x (2 ^ 64 - 1) + y) (2 ^ 64 - 1) ≡ min (x + y) (2 ^ 64 - 1)
 told_more x y = omega arith
 
+-- the place after one more message
+place_more : (first : ℕ) (messages : List (List ℕ)) (m : List ℕ) → place_after first (messages ++ m ∷ []) ≡ place_after first messages + (length m + 4)
+place_more first [] m = refl
+place_more first (n ∷ messages) m = place_more (first + (length n + 4)) messages m
+
 pub linked_more : (base first : ℕ) (before : Option BlockRef) (messages : List (List ℕ)) (i : ℕ) (m : List ℕ) (tip : Option BlockRef) (next : BlockRef) (at at' : ℕ)
     → i < length messages → m ≡ get_or messages i m → IsLinkedTo base first before (take i messages) tip at → IsNextRecord base tip m next
     → at' ≡ told (at + (length m + 4)) → IsLinkedTo base first before (take (i + 1) messages) (Some next) at'
-linked_more base first before messages i m tip next at at' within item l n at_is = record {
-  blocks = n.block ∷ l.blocks;
-  records = record {
-    texts = taken_more record_text n.block l.blocks messages i m within item n.record_is.text l.records.texts;
-    readable = (n.record_is.readable, l.records.readable);
-  };
-  next = (subst (λ (t : Option BlockRef). IsTrue (is_next base t n.block)) l.tip_is n.next, l.next);
-  tip_is = ap Some n.tip_is;
-  at_is = at_is ∙ ap (λ a. told (a + (length m + 4))) l.at_is ∙ told_more (place_after first l.blocks) (length m + 4) ∙ ap (λ (t : List ℕ). told (place_after first l.blocks + (length t + 4))) n.record_is.text;
-}
+linked_more base first before messages i m tip next at at' within item l n at_is =
+    let taken : take (i + 1) messages ≡ take i messages ++ m ∷ [] = next_taken messages i m within item in
+    record {
+      blocks = n.block ∷ l.blocks;
+      records = subst (λ (ms : List (List ℕ)). AreRecords ms (n.block ∷ l.blocks)) (sym taken) (records_more (take i messages) l.blocks m n.block l.records n.record_is);
+      next = (subst (λ (t : Option BlockRef). IsTrue (is_next base t n.block)) l.tip_is n.next, l.next);
+      tip_is = ap Some n.tip_is;
+      at_is =
+          at_is ∙ ap (λ a. told (a + (length m + 4))) l.at_is ∙ told_more (place_after first (take i messages)) (length m + 4)
+          ∙ ap told (sym (place_more first (take i messages) m)) ∙ ap (λ (ms : List (List ℕ)). told (place_after first ms)) (sym taken);
+    }
 
 module _ (base first : ℕ) (before : Option BlockRef) (messages : List (List ℕ)) (i : ℕ) (m : List ℕ) (tip : Option BlockRef) (at : ℕ) (within : i < length messages) (item : m ≡ get_or messages i m) (l : IsLinkedTo base first before (take i messages) tip at) where
-  bad_record : (at' : ℕ) → IsNoRecord at m at' → IsNoRecord (place_after first l.blocks) m at'
-  bad_record at' n = record { none = n.none; byte = n.byte; fault = n.fault; at_is = n.at_is ∙ ap (λ a. told (a + n.byte)) l.at_is ∙ told_more (place_after first l.blocks) n.byte }
+  bad_record : (at' : ℕ) → IsNoRecord at m at' → IsNoRecord (place_after first (take i messages)) m at'
+  bad_record at' n = record { none = n.none; byte = n.byte; fault = n.fault; at_is = n.at_is ∙ ap (λ a. told (a + n.byte)) l.at_is ∙ told_more (place_after first (take i messages)) n.byte }
 
-  not_next : (at' : ℕ) → IsNotNext base tip at m at' → IsNotNext base (tip_after before l.blocks) (place_after first l.blocks) m at'
+  not_next : (at' : ℕ) → IsNotNext base tip at m at' → IsNotNext base (tip_after before l.blocks) (place_after first (take i messages)) m at'
   not_next at' n = record {
     block = n.block;
     record_is = n.record_is;
     not_next = ap (λ (t : Option BlockRef). is_next base t n.block) (sym l.tip_is) ∙ n.not_next;
-    at_is = n.at_is ∙ ap told l.at_is ∙ told_twice (place_after first l.blocks);
+    at_is = n.at_is ∙ ap told l.at_is ∙ told_twice (place_after first (take i messages));
   }
     where
       told_twice : (x : ℕ) → min (min x (2 ^ 64 - 1)) (2 ^ 64 - 1) ≡ min x (2 ^ 64 - 1)
       told_twice x = omega arith
 
-  bad_message : (at' : ℕ) → IsNoRecord (place_after first l.blocks) m at' ⊎ IsNotNext base (tip_after before l.blocks) (place_after first l.blocks) m at' → IsBadMessage base first messages before at'
+  bad_message : (at' : ℕ) → IsNoRecord (place_after first (take i messages)) m at' ⊎ IsNotNext base (tip_after before l.blocks) (place_after first (take i messages)) m at' → IsBadMessage base first messages before at'
   bad_message at' bad = record { blocks = l.blocks; front = take i messages; message = m; more = drop (suc i) messages; messages_are = cut_at messages (take i messages) i m within item refl; records = l.records; next = l.next; bad = bad }
 
   pub link_refused : (e : FileFault) → NextRefused base at tip m e → LinkRefused base first messages before e
@@ -71,15 +79,12 @@ module _ (base first : ℕ) (before : Option BlockRef) (messages : List (List �
 
 -- all messages are linked
 pub all_linked : (base first : ℕ) (before : Option BlockRef) (messages : List (List ℕ)) (tip : Option BlockRef) (at n : ℕ) → n ≡ length messages → IsLinkedTo base first before (take n messages) tip at → AreLinked base before messages tip
-all_linked base first before messages tip at n all l = record { blocks = l.blocks; records = record { texts = sym (whole messages n all) ∙ l.records.texts; readable = l.records.readable }; next = l.next; tip_is = l.tip_is }
+all_linked base first before messages tip at n all l = record { blocks = l.blocks; records = subst (λ (ms : List (List ℕ)). AreRecords ms l.blocks) (whole messages n all) l.records; next = l.next; tip_is = l.tip_is }
   where
     whole : (ms : List (List ℕ)) (k : ℕ) → k ≡ length ms → take k ms ≡ ms
     whole ms k e = take_all k ms (omega arith)
 
 -- ---- the whole file
-
-pub length_records : (messages : List (List ℕ)) (blocks : List Block) → AreRecords messages blocks → length messages ≡ length blocks
-length_records messages blocks records = ap length records.texts ∙ length-map (reverse blocks) record_text ∙ length-reverse blocks
 
 module _ (base : ℕ) (text : List ℕ) (kept : Option (List ℕ)) (before : Option BlockRef) (file : FileContents) (end : ℕ) (has : HasContents text file) (end_is : end ≡ unwrap_or (option_map fault_place file.fault) (told (length text))) where
   pub head_refused : (e : FileFault) → HeadRefused file.block_type kept end e → BundleRefused base text kept before e
@@ -97,7 +102,7 @@ module _ (base : ℕ) (text : List ℕ) (kept : Option (List ℕ)) (before : Opt
     bad_end : (at : ℕ) → IsBadAfter base file.messages.items before ends end at → IsBadEnd base text before at
     bad_end at b = record {
       blocks = b.linked.blocks;
-      records = record { texts = sym has.messages ∙ b.linked.records.texts; readable = b.linked.records.readable };
+      records = subst (λ (ms : List (List ℕ)). AreRecords ms b.linked.blocks) has.messages b.linked.records;
       next = b.linked.next;
       ends = by_cause b.not_ended;
       place = b.at_is ∙ end_is ∙ ap (λ f. unwrap_or (option_map fault_place f) (told (length text))) has.fault;
@@ -128,7 +133,7 @@ module _ (base : ℕ) (text : List ℕ) (kept : Option (List ℕ)) (before : Opt
         record {
           blocks = l.blocks;
           bundle = record {
-            holds = record { typed = head.typed; records = record { texts = sym has.messages ∙ l.records.texts; readable = l.records.readable }; whole = sym has.fault ∙ none_of file.fault parts.1 };
+            holds = record { typed = head.typed; records = subst (λ (ms : List (List ℕ)). AreRecords ms l.blocks) has.messages l.records; whole = sym has.fault ∙ none_of file.fault parts.1 };
             some = ap (λ n. nat_lt 0 n) (sym (length_records file.messages.items l.blocks l.records)) ∙ parts.0;
             same = same;
             next = l.next;

@@ -13,6 +13,10 @@ pub taken_more : {A B : Type 0} (f : A → B) (x : A) (older : List A) (ys : Lis
 taken_more {A} {B} f x older ys i y within item is read =
     take_more ys i y within ∙ ap (λ (z : B). take i ys ++ z ∷ []) (sym item ∙ is) ∙ ap (λ (zs : List B). zs ++ f x ∷ []) read ∙ sym (map_reverse_more f x older)
 
+-- those that were read, and the next one
+pub next_taken : {A : Type 0} (ys : List A) (i : ℕ) (y : A) → i < length ys → y ≡ get_or ys i y → take (i + 1) ys ≡ take i ys ++ y ∷ []
+next_taken {A} ys i y within item = take_more ys i y within ∙ ap (λ (z : A). take i ys ++ z ∷ []) (sym item)
+
 -- those that were read, the next one, and those after it
 pub cut_at : {A : Type 0} (ys front : List A) (i : ℕ) (y : A) → i < length ys → y ≡ get_or ys i y → take i ys ≡ front → ys ≡ front ++ y ∷ drop (suc i) ys
 cut_at {A} ys front i y within item read =

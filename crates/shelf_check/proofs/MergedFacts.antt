@@ -5,8 +5,8 @@ use Rattle.block_record.specs.declared.blocks.BlockRef.{BlockRef}
 use Rattle.dbin_file.specs.Contents.{told}
 use Rattle.one_block.specs.Files.{merged_base_of}
 use Rattle.outer_world.specs.Files.{Files}
-use Rattle.shelf_check.specs.declared.faults.FileFault.{FileFault}
-use Rattle.shelf_check.specs.declared.faults.FileFault.TheVariants.{Bad}
+use Rattle.one_block.specs.declared.file_faults.FileFault.{FileFault}
+use Rattle.one_block.specs.declared.file_faults.FileFault.TheVariants.{Bad}
 use Rattle.shelf_check.specs.declared.merged.MergedRead.{MergedRead}
 use Rattle.shelf_check.specs.declared.bundles.BundleRead.{BundleRead}
 use Rattle.shelf_check.specs.Bundles.{tip_after, IsBundleRead}

@@ -3,10 +3,10 @@ use Rattle.std.proofs.Common.{◌≡◌, inl, inr, ℕ, List, Option, ap, subst,
 use Rattle.std.specs.Prelude.{codes, IsPermutation, IsSorted}
 use Rattle.outer_world.specs.Files.{Files}
 use Rattle.outer_world.specs.Shelves.{AreNamesOf}
-use Rattle.shelf_check.specs.declared.faults.FileFault.{FileFault}
+use Rattle.one_block.specs.declared.file_faults.FileFault.{FileFault}
 use Rattle.shelf_check.specs.declared.folders.FolderRead.{FolderRead}
 use Rattle.shelf_check.specs.declared.merged.MergedRead.{MergedRead}
-use Rattle.shelf_check.specs.declared.forms.Folder.TheVariants.{One, Forked}
+use Rattle.one_block.specs.declared.forms.Folder.TheVariants.{One, Forked}
 use Rattle.shelf_check.specs.Folders.{IsFolder, kept_after}
 use Rattle.shelf_check.specs.Folders.{IsFirstIn as IsFirstInFolder}
 use Rattle.shelf_check.specs.Folders.{IsFolderRead as IsOneRead}

@@ -2,7 +2,6 @@
 use Rattle.std.proofs.Common.{◌≡◌, ◌+◌, ◌⊎◌, ℕ, List, [], ◌∷◌, ◌++◌, length, map, Option, Some, None, Result, Ok, Err, inl, inr, refl, sym, ap, subst, ◌∙◌}
 use Rattle.std.specs.Prelude.{IsPermutation}
 use Rattle.std.specs.Option.{unwrap_or}
-use Rattle.std.specs.List.{AllByRecursion}
 use Rattle.std.specs.Cmp.{IsTotalOrder, then_total, on_total, nat_cmp_total}
 use Rattle.std.specs.Cmp.Lexicographic.{slice_cmp, nat_list_cmp_total}
 use Rattle.std.specs.Ordering.{nat_cmp, ordering_then}
@@ -12,29 +11,29 @@ use Rattle.std.proofs.lemmas.Map.Lookups.{exact_unsigned, exact_bytes}
 use Rattle.std.proofs.lemmas.List.{length-map}
 use Rattle.block_record.specs.declared.blocks.Block.{Block}
 use Rattle.block_record.specs.declared.blocks.BlockRef.{BlockRef}
-use Rattle.block_record.specs.Records.{record_text}
 use Rattle.dbin_file.specs.Contents.{contents}
 use Rattle.one_block.specs.Files.{merged_base_of}
 use Rattle.one_block.specs.declared.faults.StoreFault.TheVariants as store
 use Rattle.outer_world.specs.Files.{Files, file_at}
 use Rattle.shelf_check.specs.declared.check.Report.{Report}
-use Rattle.shelf_check.specs.declared.faults.FileFault.{FileFault}
-use Rattle.shelf_check.specs.declared.faults.FileFault.TheVariants.{Bad, OtherType, Mem}
+use Rattle.one_block.specs.declared.file_faults.FileFault.{FileFault}
+use Rattle.one_block.specs.declared.file_faults.FileFault.TheVariants.{Bad, OtherType, Mem}
 use Rattle.shelf_check.specs.declared.faults.LoadFault.{LoadFault}
 use Rattle.shelf_check.specs.declared.faults.LoadFault.TheVariants.{Store, KindClash, HistoryFull}
-use Rattle.shelf_check.specs.declared.forms.Folder.{Folder}
-use Rattle.shelf_check.specs.declared.forms.Folder.TheVariants.{One, Forked}
-use Rattle.shelf_check.specs.declared.forms.Form.{Form}
-use Rattle.one_block.specs.Containers.{IsReadable}
-use Rattle.shelf_check.specs.Containers.{AreRecords}
+use Rattle.one_block.specs.declared.forms.Folder.{Folder}
+use Rattle.one_block.specs.declared.forms.Folder.TheVariants.{One, Forked}
+use Rattle.one_block.specs.declared.forms.Form.{Form}
+use Rattle.one_block.specs.Heads.{AreRecords}
 use Rattle.shelf_check.specs.Bundles.{tip_after, BundleRefused}
-use Rattle.shelf_check.specs.Singles.{FormedRefused, AnswersBy}
+use Rattle.one_block.specs.Singles.{FormedRefused}
+use Rattle.shelf_check.specs.Singles.{AnswersBy}
 use Rattle.shelf_check.specs.Folders.{HasText, Single, IsSingle, kept_after, AreSingles, IsFolder, IsBadFile}
 use Rattle.shelf_check.specs.Folders.{IsFirstIn as IsFirstInFolder}
 use Rattle.shelf_check.specs.Merged.{Entry, entry_order, AreOrdered, Bundle, IsBundleOn, kept_of, tip_of, block_count, AreBundles, entries_of, IsMerged, IsOtherName, IsFirstBased, IsBadBundle}
 use Rattle.shelf_check.specs.Merged.{IsFirstIn as IsFirstInMerged}
 use Rattle.shelf_check.specs.Refusals.{Refused}
 use Rattle.shelf_check.specs.Shelf.{report_of, IsGood, IsFirstFault, CheckAnswers, IsGoodShelf, IsReported}
+use Rattle.one_block.proofs.public.RecordFacts.{same_blocks}
 use Rattle.shelf_check.proofs.LawFacts.{taken_bundle, taken_single}
 use Rattle.shelf_check.proofs.ListFacts.{first_same, rest_same, map_turned, Split, split_at}
 use Rattle.shelf_check.proofs.SortedFacts.{sorted_same}
@@ -49,20 +48,9 @@ one_text files n m t u a b e = sym a ∙ ap (λ x. unwrap_or (file_at x files) [
 one_type : (t u held offered : List ℕ) → (contents t).block_type ≡ Some held → (contents u).block_type ≡ Some offered → t ≡ u → held ≡ offered
 one_type t u held offered a b e = let s : (let o : Option (List ℕ) = Some held in o) ≡ Some offered = sym a ∙ ap (λ x. (contents x).block_type) e ∙ b in cc s
 
-one_list : (xs ys : List Block) → map record_text xs ≡ map record_text ys → AllByRecursion IsReadable xs → AllByRecursion IsReadable ys → xs ≡ ys
-one_list [] [] e ax ay = refl
-one_list [] (y ∷ ys) e ax ay = absurd (cc e)
-one_list (x ∷ xs) [] e ax ay = absurd (cc e)
-one_list (x ∷ xs) (y ∷ ys) e ax ay =
-    let head : record_text y ≡ record_text x = cc e in
-    let tail : map record_text xs ≡ map record_text ys = cc e in
-    let same : x ≡ y = ay.0.only x ax.0.recordable head in
-    ap (λ (z : Block). z ∷ xs) same ∙ ap (λ (zs : List Block). y ∷ zs) (one_list xs ys tail ax.1 ay.1)
-
 -- a text has one list of blocks
 one_content : (t u : List ℕ) (xs ys : List Block) → AreRecords (contents t).messages xs → AreRecords (contents u).messages ys → t ≡ u → xs ≡ ys
-one_content t u xs ys a b e =
-    one_list xs ys (map_turned record_text xs ys (sym a.texts ∙ ap (λ x. (contents x).messages) e ∙ b.texts)) a.readable b.readable
+one_content t u xs ys a b e = same_blocks (contents u).messages xs ys (subst (λ (x : List ℕ). AreRecords (contents x).messages xs) e a) b
 
 -- ---- the folders of single files
 

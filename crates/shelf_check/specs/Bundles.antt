@@ -4,13 +4,12 @@ use Rattle.std.specs.Option.{is_some}
 use Rattle.block_record.specs.Ids.{same_id}
 use Rattle.block_record.specs.declared.blocks.Block.{Block}
 use Rattle.block_record.specs.declared.blocks.BlockRef.{BlockRef}
-use Rattle.block_record.specs.Records.{record_text}
 use Rattle.dbin_file.specs.Contents.{contents, told}
 use Rattle.one_block.specs.Containers.{container_fault, empty_place, record_place, IsRecordOf, IsNoRecord}
 use Rattle.shelf_check.specs.declared.bundles.BundleRead.{BundleRead}
-use Rattle.shelf_check.specs.declared.faults.FileFault.{FileFault}
-use Rattle.shelf_check.specs.declared.faults.FileFault.TheVariants.{Bad, OtherType, Mem}
-use Rattle.shelf_check.specs.Containers.{AreRecords, HoldsBlocks, HasHead, IsKept, IsBadHead, HasOtherType}
+use Rattle.one_block.specs.declared.file_faults.FileFault.{FileFault}
+use Rattle.one_block.specs.declared.file_faults.FileFault.TheVariants.{Bad, OtherType, Mem}
+use Rattle.one_block.specs.Heads.{AreRecords, HoldsBlocks, HasHead, IsKept, IsBadHead, HasOtherType}
 
 -- the base of the hundred in which a number lies
 abbrev pub hundred : ℕ → ℕ
@@ -50,10 +49,10 @@ pub record IsBundle (base : ℕ) (text : List ℕ) (kept : Option (List ℕ)) (b
   pub same : IsKept kept block_type
   pub next : AreNext base before blocks
 
--- the place of the message after the records of these blocks, of which the first stands at this place: each has the 4 bytes of a length before it
-abbrev pub place_after : ℕ → List Block → ℕ
+-- the place of the message after these, of which the first stands at this place: each has the 4 bytes of a length before it
+abbrev pub place_after : ℕ → List (List ℕ) → ℕ
 place_after first [] = first
-place_after first (b ∷ older) = place_after first older + (length (record_text b) + 4)
+place_after first (m ∷ messages) = place_after (first + (length m + 4)) messages
 
 -- a message that stands at this place is the record of a block that may not come next
 pub record IsNotNext (base : ℕ) (before : Option BlockRef) (place : ℕ) (message : List ℕ) (at : ℕ) : Type 0 where
@@ -71,7 +70,7 @@ pub record IsBadMessage (base first : ℕ) (messages : List (List ℕ)) (before 
   pub messages_are : messages ≡ front ++ message ∷ more
   pub records : AreRecords front blocks
   pub next : AreNext base before blocks
-  pub bad : IsNoRecord (place_after first blocks) message at ⊎ IsNotNext base (tip_after before blocks) (place_after first blocks) message at
+  pub bad : IsNoRecord (place_after first front) message at ⊎ IsNotNext base (tip_after before blocks) (place_after first front) message at
 
 -- all messages are records of blocks that may come next, and there is none, or the container does not end after them
 pub record IsBadEnd (base : ℕ) (text : List ℕ) (before : Option BlockRef) (at : ℕ) : Type 0 where

@@ -4,15 +4,16 @@ use Rattle.std.specs.Option.{unwrap_or}
 use Rattle.block_record.specs.declared.blocks.Block.{Block}
 use Rattle.outer_world.specs.Files.{Files, file_at}
 use Rattle.outer_world.specs.Shelves.{AreNamesOf}
-use Rattle.shelf_check.specs.declared.faults.FileFault.{FileFault}
+use Rattle.one_block.specs.declared.file_faults.FileFault.{FileFault}
 use Rattle.shelf_check.specs.declared.faults.LoadFault.{LoadFault}
 use Rattle.shelf_check.specs.declared.folders.FolderRead.{FolderRead}
-use Rattle.shelf_check.specs.declared.forms.Folder.{Folder}
-use Rattle.shelf_check.specs.declared.forms.Folder.TheVariants.{One, Forked}
-use Rattle.shelf_check.specs.declared.forms.Form.{Form}
-use Rattle.shelf_check.specs.Forms.{form_of}
+use Rattle.one_block.specs.declared.forms.Folder.{Folder}
+use Rattle.one_block.specs.declared.forms.Folder.TheVariants.{One, Forked}
+use Rattle.one_block.specs.declared.forms.Form.{Form}
+use Rattle.one_block.specs.Forms.{form_of}
 use Rattle.shelf_check.specs.Refusals.{Refused}
-use Rattle.shelf_check.specs.Singles.{IsSingleOf, SingleAnswers}
+use Rattle.one_block.specs.Singles.{IsSingleOf}
+use Rattle.shelf_check.specs.Singles.{SingleAnswers}
 
 -- the bytes of a file, where the files are told; one that is not there has none
 abbrev pub HasText : Option Files → List ℕ → List ℕ → Type 0

@@ -2,11 +2,11 @@
 use Rattle.std.specs.Prelude.{ℕ, ◌≡◌, List, Option}
 use Rattle.block_record.specs.declared.blocks.Block.{Block}
 use Rattle.block_record.specs.declared.blocks.BlockRef.{BlockRef}
-use Rattle.shelf_check.specs.declared.faults.FileFault.{FileFault}
-use Rattle.shelf_check.specs.declared.faults.FileFault.TheVariants.{Mem}
-use Rattle.shelf_check.specs.declared.forms.Form.{Form}
+use Rattle.one_block.specs.declared.file_faults.FileFault.{FileFault}
+use Rattle.one_block.specs.declared.file_faults.FileFault.TheVariants.{Mem}
+use Rattle.one_block.specs.declared.forms.Form.{Form}
 use Rattle.shelf_check.specs.Bundles.{IsBundle, BundleRefused}
-use Rattle.shelf_check.specs.Singles.{IsSingleOf, FormedRefused}
+use Rattle.one_block.specs.Singles.{IsSingleOf, FormedRefused}
 
 -- a good file is refused for want of memory alone
 pub record GoodFilesAreTaken : Type 0 where

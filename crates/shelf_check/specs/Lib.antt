@@ -1,6 +1,4 @@
-pub mod Containers
 pub mod Bundles
-pub mod Forms
 pub mod Singles
 pub mod Steps
 pub mod Refusals

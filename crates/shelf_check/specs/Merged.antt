@@ -10,8 +10,8 @@ use Rattle.dbin_file.specs.Contents.{told}
 use Rattle.one_block.specs.Files.{merged_base_of}
 use Rattle.outer_world.specs.Files.{Files}
 use Rattle.outer_world.specs.Shelves.{AreNamesOf}
-use Rattle.shelf_check.specs.declared.faults.FileFault.{FileFault}
-use Rattle.shelf_check.specs.declared.faults.FileFault.TheVariants.{Bad}
+use Rattle.one_block.specs.declared.file_faults.FileFault.{FileFault}
+use Rattle.one_block.specs.declared.file_faults.FileFault.TheVariants.{Bad}
 use Rattle.shelf_check.specs.declared.faults.LoadFault.{LoadFault}
 use Rattle.shelf_check.specs.declared.merged.MergedRead.{MergedRead}
 use Rattle.shelf_check.specs.Bundles.{IsBundle, BundleRefused, tip_after}

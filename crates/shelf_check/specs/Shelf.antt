@@ -3,9 +3,9 @@ use Rattle.std.specs.Prelude.{ℕ, ◌≡◌, ◌⊎◌, List, length, Option, N
 use Rattle.dbin_file.specs.Contents.{told}
 use Rattle.outer_world.specs.Files.{Files}
 use Rattle.shelf_check.specs.declared.check.Report.{Report}
-use Rattle.shelf_check.specs.declared.faults.FileFault.{FileFault}
+use Rattle.one_block.specs.declared.file_faults.FileFault.{FileFault}
 use Rattle.shelf_check.specs.declared.faults.LoadFault.{LoadFault}
-use Rattle.shelf_check.specs.declared.forms.Folder.TheVariants.{One, Forked}
+use Rattle.one_block.specs.declared.forms.Folder.TheVariants.{One, Forked}
 use Rattle.shelf_check.specs.Folders.{Single, IsFolder, kept_after}
 use Rattle.shelf_check.specs.Folders.{IsFirstIn as IsFirstInFolder}
 use Rattle.shelf_check.specs.Merged.{Bundle, IsMerged, kept_of, block_count}

@@ -5,10 +5,8 @@ ghost use Rattle.std.specs.Option.{is_some};
 ghost use Rattle.shelf_check.specs.Bundles.{BundleAnswers, block_ref, hundred as hundred_of, is_child as is_child_of, is_next as may_be_next};
 ghost use Rattle.shelf_check.specs.Steps.{LinkAnswers, NextAnswers, WholeAnswers};
 
-use crate::containers::{decode_at, head_type};
-use crate::faults::FileFault;
 use block_record::{Block, BlockRef, Bytes, TypeName};
-use one_block::{FileContents, end_place, read_contents};
+use one_block::{FileContents, FileFault, decode_at, end_place, head_type, read_contents};
 use std::alloc::Global;
 
 /// What a file of merged blocks holds.

@@ -6,8 +6,8 @@ ghost use Rattle.shelf_check.specs.Shelf.{CheckAnswers, IsGoodShelf, IsReported}
 
 use crate::faults::LoadFault;
 use crate::folders::check_folder;
-use crate::forms::Folder;
 use crate::merged::check_merged;
+use one_block::Folder;
 use outer_world::Shelf;
 use std::alloc::Global;
 

@@ -5,9 +5,9 @@ ghost use Rattle.outer_world.specs.Shelves.{HasShelfCause};
 ghost use Rattle.shelf_check.specs.Folders.{HasText, FileAnswers, NamesAnswer, FolderAnswers, folder_text as text_of_folder};
 
 use crate::faults::{LoadFault, with_name};
-use crate::forms::Folder;
 use crate::singles::check_single;
 use block_record::TypeName;
+use one_block::Folder;
 use outer_world::{FileName, Shelf, ShelfFail, read_file};
 use std::alloc::Global;
 

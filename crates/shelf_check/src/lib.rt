@@ -3,18 +3,15 @@
 
 mod bundles;
 mod check;
-mod containers;
 mod faults;
 mod folders;
-mod forms;
 mod laws;
 mod merged;
 mod singles;
 
 pub use bundles::{BundleRead, check_bundle};
 pub use check::{Report, check_shelf};
-pub use faults::{FileFault, LoadFault};
-pub use forms::Folder;
+pub use faults::LoadFault;
 pub use laws::good_files_are_taken;
 pub use singles::check_single;
 

@@ -1,5 +1,5 @@
 use Rattle.std.proofs.Common.{[], ◌++◌, ◌∙◌, ap}
-use Rattle.one_block.proofs.ContainerFacts.{all_messages}
+use Rattle.one_block.proofs.public.ContainerFacts.{all_messages}
 use Rattle.one_block.proofs.containers.feed_all.Goals as goal
 
 pub returns-clause-messages : goal.returns-clause-messages

@@ -1,5 +1,5 @@
 use Rattle.std.proofs.lemmas.Result.{err_from_is_err_and}
-use Rattle.one_block.proofs.ContainerFacts.{decoded, not_read}
+use Rattle.one_block.proofs.public.ContainerFacts.{decoded, not_read}
 use Rattle.one_block.proofs.containers.read_record.Goals as goal
 
 pub returns-in_err-block : goal.returns-in_err-block

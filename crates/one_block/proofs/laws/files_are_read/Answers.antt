@@ -1,4 +1,4 @@
-use Rattle.one_block.proofs.FileFacts.{files_are_read}
+use Rattle.one_block.proofs.public.FileFacts.{files_are_read}
 use Rattle.one_block.proofs.laws.files_are_read.Goals as goal
 
 pub returns : goal.returns

@@ -1,7 +1,11 @@
-use Rattle.std.proofs.Common.{◌∙◌}
+use Rattle.std.proofs.Common.{◌∙◌, ◌≤◌, List, ℕ, length, sym, subst}
 use Rattle.block_record.specs.Records.{record_text}
-use Rattle.one_block.proofs.PutFacts.{one_message}
+use Rattle.one_block.proofs.PutFacts.{one_message, record_small}
 use Rattle.one_block.proofs.put.one_file.Goals as goal
+
+pub message-requires : goal.message-requires
+message-requires c =
+    subst (λ (l : List ℕ). length l ≤ 50_001_024) (sym (c.as_slice.ensures.value ∙ c.in_ok-record.ensures.text)) (record_small c.args.block.now c.in_ok-record.ensures.recordable)
 
 pub returns : goal.returns
 returns c =

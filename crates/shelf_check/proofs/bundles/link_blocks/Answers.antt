@@ -1,9 +1,12 @@
-use Rattle.std.proofs.Common.{ap, ◌∙◌, ◌+◌, List, ℕ, length, subst}
+use Rattle.std.proofs.Common.{arith, ap, ◌∙◌, ◌+◌, List, ℕ, length, subst}
 use Rattle.std.proofs.lemmas.Result.{err_from_is_err_and}
 use Rattle.dbin_file.specs.Contents.{told}
 use Rattle.shelf_check.specs.Steps.{NextRefused, IsNextRecord}
-use Rattle.shelf_check.proofs.LinkFacts.{link_refused, linked_more}
+use Rattle.shelf_check.proofs.LinkFacts.{link_refused, linked_more, linked_none}
 use Rattle.shelf_check.proofs.bundles.link_blocks.Goals as goal
+
+pub loop-message-init : goal.loop-message-init
+loop-message-init c = linked_none c.args.base c.args.first c.args.tip c.args.messages.now (omega (arith, c.ranges.first))
 
 pub returns-in_err-next : goal.returns-in_err-next
 returns-in_err-next c =

@@ -1,7 +1,7 @@
 use Rattle.std.proofs.Common.{rules, arith, ◌∙◌, ◌≤◌, Ok}
 use Rattle.std.proofs.Math.Nat.{le_refl}
 use Rattle.std.proofs.lemmas.Result.{err_from_is_err_and}
-use Rattle.shelf_check.specs.declared.forms.Folder.TheVariants.{One, Forked}
+use Rattle.one_block.specs.declared.forms.Folder.TheVariants.{One, Forked}
 use Rattle.shelf_check.specs.Folders.{IsFirstIn}
 use Rattle.shelf_check.specs.Shelf.{IsFirstFault, CheckAnswers}
 use Rattle.shelf_check.proofs.RefusalFacts.{refused_on}

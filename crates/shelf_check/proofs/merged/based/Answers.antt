@@ -1,4 +1,4 @@
-use Rattle.shelf_check.specs.declared.faults.FileFault.TheVariants.{Bad}
+use Rattle.one_block.specs.declared.file_faults.FileFault.TheVariants.{Bad}
 use Rattle.shelf_check.specs.Merged.{IsOtherName}
 use Rattle.shelf_check.proofs.MergedFacts.{other_name}
 use Rattle.shelf_check.proofs.RefusalFacts.{refused_at}

@@ -1,6 +1,6 @@
 use Rattle.std.proofs.Common.{refl, sym, ap, ◌∙◌, Some}
-use Rattle.shelf_check.proofs.ContainerFacts.{differ}
-use Rattle.shelf_check.proofs.containers.same_type.Goals as goal
+use Rattle.one_block.proofs.public.HeadFacts.{differ}
+use Rattle.one_block.proofs.heads.same_type.Goals as goal
 
 pub returns-in_ok-held : goal.returns-in_ok-held
 returns-in_ok-held c = record {

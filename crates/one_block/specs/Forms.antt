@@ -6,12 +6,11 @@ use Rattle.block_record.specs.declared.blocks.Slip.{Slip}
 use Rattle.block_record.specs.Texts.{is_id_text}
 use Rattle.one_block.specs.Numerals.{filled_number}
 use Rattle.one_block.specs.Files.{bare_text, forked_text}
-use Rattle.one_block.specs.Names.{name_parts}
-use Rattle.one_block.specs.Puts.{own_file}
-use Rattle.shelf_check.specs.declared.forms.Folder.{Folder}
-use Rattle.shelf_check.specs.declared.forms.Folder.TheVariants.{One, Forked}
-use Rattle.shelf_check.specs.declared.forms.Form.{Form}
-use Rattle.shelf_check.specs.declared.forms.Form.TheVariants.{ByReader, ByBlock}
+use Rattle.one_block.specs.Names.{name_parts, own_file}
+use Rattle.one_block.specs.declared.forms.Folder.{Folder}
+use Rattle.one_block.specs.declared.forms.Folder.TheVariants.{One, Forked}
+use Rattle.one_block.specs.declared.forms.Form.{Form}
+use Rattle.one_block.specs.declared.forms.Form.TheVariants.{ByReader, ByBlock}
 
 -- a one-block name has a reader
 abbrev pub by_reader : List ℕ → Option Form

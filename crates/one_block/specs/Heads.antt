@@ -1,15 +1,19 @@
--- Files of blocks: containers whose messages are records, all of one type.
-use Rattle.std.specs.Prelude.{ℕ, ◌≡◌, List, map, reverse, Option, None, Some, ⊤}
+-- The heads of files, all of one type, and the blocks that a file holds.
+use Rattle.std.specs.Prelude.{ℕ, ◌≡◌, List, [], ◌∷◌, reverse, Option, None, Some, ⊤}
 use Rattle.block_record.specs.declared.blocks.Block.{Block}
-use Rattle.std.specs.List.{AllByRecursion}
-use Rattle.block_record.specs.Records.{record_text}
 use Rattle.dbin_file.specs.Contents.{contents}
-use Rattle.one_block.specs.Containers.{container_fault, empty_place, IsReadable}
+use Rattle.one_block.specs.Containers.{container_fault, empty_place, IsRecordOf}
+
+-- messages and blocks in the same order: each message is the record of the block at its place
+abbrev pub AreRecordsOf : List (List ℕ) → List Block → Type 0
+AreRecordsOf [] [] = ⊤
+AreRecordsOf [] (b ∷ blocks) = ⊥
+AreRecordsOf (m ∷ messages) [] = ⊥
+AreRecordsOf (m ∷ messages) (b ∷ blocks) = IsRecordOf m b × AreRecordsOf messages blocks
 
 -- messages are the records of these blocks, the newest block first
 pub record AreRecords (messages : List (List ℕ)) (blocks : List Block) : Type 0 where
-  pub texts : messages ≡ map record_text (reverse blocks)
-  pub readable : AllByRecursion IsReadable blocks
+  pub records : AreRecordsOf messages (reverse blocks)
 
 -- a text is a container of this type that holds these blocks, and nothing else
 pub record HoldsBlocks (text block_type : List ℕ) (blocks : List Block) : Type 0 where

@@ -24,9 +24,9 @@ use Rattle.one_block.specs.Numerals.{padded, filled_number}
 use Rattle.one_block.specs.Names.{id_end, name_words, name_text, parts_of, is_id_end, passing, word_at, parts_named, name_parts, IsName, IsNamed}
 use Rattle.one_block.specs.Reading.{tenths_named, ◌>>=◌}
 use Rattle.one_block.specs.Laws.{NamesAreRead}
-use Rattle.one_block.proofs.NumeralFacts.{filled_number-padded, padded-filled_number}
+use Rattle.one_block.proofs.public.NumeralFacts.{filled_number-padded, padded-filled_number}
 use Rattle.one_block.proofs.MomentFacts.{tenths_named-moment_text, moment_text-tenths_named, small_parts, step_is, step_took}
-use Rattle.one_block.proofs.OptionFacts.{some_is}
+use Rattle.one_block.proofs.public.OptionFacts.{some_is}
 
 -- ---- words without a dash
 
@@ -179,7 +179,7 @@ parts_named-name_words p is =
     ∙ step_is (word_at number_of ws 4) p.lib_num (with_lib ws p.num p.tenths p.id_end p.parent_end) (number_of-decimal p.lib_num is.lib_num)
     ∙ step_is (word_at (passing is_reader_text) ws 5) p.reader (with_reader ws p.num p.tenths p.id_end p.parent_end p.lib_num) (passes is_reader_text p.reader is.reader)
 
-name_again : (p : NameParts) → IsName p → name_parts (name_text p) ≡ Some p
+pub name_again : (p : NameParts) → IsName p → name_parts (name_text p) ≡ Some p
 name_again p is =
     ap parts_named (cut_again (padded 10 p.num) (moment_text (moment_of p.tenths)) p.id_end p.parent_end (decimal p.lib_num) p.reader
     (no_dash_padded 10 p.num is.num) (no_dash_moment p.tenths is.tenths) (no_dash_end p.id_end is.id_end) (no_dash_end p.parent_end is.parent_end) (no_dash_decimal p.lib_num is.lib_num) (no_dash_reader p.reader is.reader))
@@ -227,7 +227,7 @@ name_words-parts_named ws p e =
     }) in
     subst (λ (x : NameParts). IsName x × (ws ≡ name_words x)) end.1 (is_name, words)
 
-name_spelled : (text : List ℕ) (p : NameParts) → name_parts text ≡ Some p → IsName p × (text ≡ name_text p)
+pub name_spelled : (text : List ℕ) (p : NameParts) → name_parts text ≡ Some p → IsName p × (text ≡ name_text p)
 name_spelled text p e =
     let read = name_words-parts_named (slice_split (λ b. eqb b 45) text) p e in
     (read.0, sym (join_with_byte-slice_split 45 text) ∙ ap (join_with_byte 45) read.1)
@@ -250,7 +250,7 @@ end_good id e =
     let four : nat_le (length (id_end id)) 16 ≡ true = le-leb _ _ (omega (arith, left)) in
     rw (one, two, three, four) refl
 
-parts_good : (s : Slip) (reader : List ℕ) → IsNamed s reader → IsName (parts_of s reader)
+pub parts_good : (s : Slip) (reader : List ℕ) → IsNamed s reader → IsName (parts_of s reader)
 parts_good s reader is =
     let time = is.time in
     record {

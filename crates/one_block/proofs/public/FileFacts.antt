@@ -8,10 +8,10 @@ use Rattle.std.proofs.lemmas.Slice.Eq.{bytes_eq-Decides}
 use Rattle.one_block.specs.Numerals.{padded, filled_number}
 use Rattle.one_block.specs.Files.{whole_text, after_slash, without_ending, without_front, bare_text, merged_text, base_of, merged_base_of}
 use Rattle.one_block.specs.Laws.{LacksSlash, IsInFolder, FilesAreRead}
-use Rattle.one_block.proofs.NumeralFacts.{filled_number-padded, padded-filled_number}
-use Rattle.one_block.proofs.OptionFacts.{some_is}
+use Rattle.one_block.proofs.public.NumeralFacts.{filled_number-padded, padded-filled_number}
+use Rattle.one_block.proofs.public.OptionFacts.{some_is}
 
-after_slash-append : (folder rest : List ℕ) → LacksSlash folder → after_slash (folder ++ 47 ∷ rest) ≡ Some rest
+pub after_slash-append : (folder rest : List ℕ) → LacksSlash folder → after_slash (folder ++ 47 ∷ rest) ≡ Some rest
 after_slash-append [] rest lacks = refl
 after_slash-append (b ∷ folder) rest lacks =
     let first = lacks.0 in
@@ -38,7 +38,7 @@ after_slash-cut : (file rest : List ℕ) → after_slash file ≡ Some rest → 
 after_slash-cut [] rest e = absurd (cc e)
 after_slash-cut (b ∷ more) rest e = cut_by b more rest (after_slash-cut more rest) (eqb b 47) refl e
 
-without_ending-append : (ending text : List ℕ) → without_ending ending (text ++ ending) ≡ Some text
+pub without_ending-append : (ending text : List ℕ) → without_ending ending (text ++ ending) ≡ Some text
 without_ending-append ending text =
     let at : length (text ++ ending) - length ending ≡ length text = omega (arith, length-append text ending) in
     let end : drop (length text) (text ++ ending) ≡ ending = drop_at text ending (length text) refl in
@@ -46,7 +46,7 @@ without_ending-append ending text =
     let same : bytes_eq ending ending ≡ true = (bytes_eq-Decides ending ending).1 refl in
     rw (at, end, front, same) refl
 
-without_ending-is : (ending text front : List ℕ) → without_ending ending text ≡ Some front → text ≡ front ++ ending
+pub without_ending-is : (ending text front : List ℕ) → without_ending ending text ≡ Some front → text ≡ front ++ ending
 without_ending-is ending text front e = by_test (bytes_eq (drop (length text - length ending) text) ending) refl e
   where
     by_test : (t : Bool) → bytes_eq (drop (length text - length ending) text) ending ≡ t → (let none : Option (List ℕ) = None in cond t (Some (take (length text - length ending) text)) none) ≡ Some front → text ≡ front ++ ending
@@ -56,14 +56,14 @@ without_ending-is ending text front e = by_test (bytes_eq (drop (length text - l
         let same : take (length text - length ending) text ≡ front = some_is _ front e in
         sym (take-append-drop (length text - length ending) text) ∙ ap (λ (l : List ℕ). take (length text - length ending) text ++ l) end ∙ ap (λ (l : List ℕ). l ++ ending) same
 
-without_front-append : (front text : List ℕ) → without_front front (front ++ text) ≡ Some text
+pub without_front-append : (front text : List ℕ) → without_front front (front ++ text) ≡ Some text
 without_front-append front text =
     let start : take (length front) (front ++ text) ≡ front = take_at front text (length front) refl in
     let rest : drop (length front) (front ++ text) ≡ text = drop_at front text (length front) refl in
     let same : bytes_eq front front ≡ true = (bytes_eq-Decides front front).1 refl in
     rw (start, rest, same) refl
 
-without_front-is : (front text rest : List ℕ) → without_front front text ≡ Some rest → text ≡ front ++ rest
+pub without_front-is : (front text rest : List ℕ) → without_front front text ≡ Some rest → text ≡ front ++ rest
 without_front-is front text rest e = by_test (bytes_eq (take (length front) text) front) refl e
   where
     by_test : (t : Bool) → bytes_eq (take (length front) text) front ≡ t → (let none : Option (List ℕ) = None in cond t (Some (drop (length front) text)) none) ≡ Some rest → text ≡ front ++ rest
@@ -80,12 +80,12 @@ then_took : {A B : Type 0} (f : A → Option B) (o : Option A) (y : B) → optio
 then_took f None y e = absurd (cc e)
 then_took f (Some x) y e = (x, (refl, e))
 
-bare_again : (folder name : List ℕ) → LacksSlash folder → bare_text (whole_text folder name) ≡ Some name
+pub bare_again : (folder name : List ℕ) → LacksSlash folder → bare_text (whole_text folder name) ≡ Some name
 bare_again folder name lacks =
     then_is (without_ending (codes ".dbin")) (after_slash (whole_text folder name)) (name ++ codes ".dbin") (after_slash-append folder (name ++ codes ".dbin") lacks)
     ∙ without_ending-append (codes ".dbin") name
 
-bare_whole : (file name : List ℕ) → bare_text file ≡ Some name → IsInFolder file name
+pub bare_whole : (file name : List ℕ) → bare_text file ≡ Some name → IsInFolder file name
 bare_whole file name e =
     let rest = then_took (without_ending (codes ".dbin")) (after_slash file) name e in
     let cut = after_slash-cut file rest.0 rest.1.0 in
@@ -95,7 +95,7 @@ bare_whole file name e =
       file_is = cut.file_is ∙ ap (λ (l : List ℕ). cut.folder ++ 47 ∷ l) (without_ending-is (codes ".dbin") rest.0 name rest.1.1);
     }
 
-based_again : (base : ℕ) → base < 2 ^ 64 → base % 100 ≡ 0 → merged_base_of (merged_text base) ≡ Some base
+pub based_again : (base : ℕ) → base < 2 ^ 64 → base % 100 ≡ 0 → merged_base_of (merged_text base) ≡ Some base
 based_again base small even =
     let name : List ℕ = padded 10 base in
     let front = without_front-append (codes "merged/") (name ++ codes ".dbin") in
@@ -113,7 +113,7 @@ base_is n base e = by_test (eqb (n % 100) 0) refl e
         let same : n ≡ base = some_is n base e in
         (ap (λ k. k % 100) (sym same) ∙ eqb-true (n % 100) 0 is, same)
 
-merged_is : (file : List ℕ) (base : ℕ) → merged_base_of file ≡ Some base → (base % 100 ≡ 0) × (file ≡ merged_text base)
+pub merged_is : (file : List ℕ) (base : ℕ) → merged_base_of file ≡ Some base → (base % 100 ≡ 0) × (file ≡ merged_text base)
 merged_is file base e =
     let n = then_took base_of _ base e in
     let name = then_took (filled_number 10) _ n.0 n.1.0 in
@@ -123,6 +123,10 @@ merged_is file base e =
     let end = without_ending-is (codes ".dbin") rest.0 name.0 rest.1.1 in
     let number = (padded-filled_number 10 name.0 n.0 name.1.1).1 in
     (last.0, front ∙ ap (λ (l : List ℕ). codes "merged/" ++ l) (end ∙ ap (λ (l : List ℕ). l ++ codes ".dbin") (number ∙ ap (padded 10) last.1)))
+
+-- no two names of files of merged blocks tell one base
+pub one_base_name : (a b : List ℕ) (base : ℕ) → merged_base_of a ≡ Some base → merged_base_of b ≡ Some base → a ≡ b
+one_base_name a b base ea eb = (merged_is a base ea).1 ∙ sym (merged_is b base eb).1
 
 pub files_are_read : FilesAreRead
 files_are_read = record { bare = bare_again; whole = bare_whole; based = based_again; merged = merged_is }

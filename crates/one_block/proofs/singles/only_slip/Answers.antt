@@ -1,8 +1,8 @@
 use Rattle.std.proofs.Common.{inl, inr, refl, ◌+◌, length, ap, sym, ◌∙◌, List, ℕ}
 use Rattle.std.proofs.lemmas.Bool.{false≢true}
 use Rattle.dbin_file.specs.Contents.{told}
-use Rattle.shelf_check.specs.Forms.{own_name}
-use Rattle.shelf_check.proofs.singles.check_only.Goals as goal
+use Rattle.one_block.specs.Forms.{own_name}
+use Rattle.one_block.proofs.singles.only_slip.Goals as goal
 
 pub returns-then-not-branch : goal.returns-then-not-branch
 returns-then-not-branch c = inr (inl (record {
@@ -22,12 +22,10 @@ returns-then-goes_on c = inr (inr (record {
 }))
 
 pub returns : goal.returns
-returns c = (
-  record {
-    block = c.in_ok-block.block;
-    record_is = rw c.as_bytes.ensures at c.in_ok-block.ensures;
-    named = c.in_ok-fits.ensures.0 c.if-not-branch.false ∙ ap (λ s. own_name c.args.form.now s) c.into_slip-slip.ensures;
-    ends = c.if-goes_on.false;
-  },
-  refl,
-)
+returns c = record {
+  block = c.in_ok-block.block;
+  slip_is = c.into_slip-slip.ensures;
+  record_is = rw c.as_bytes.ensures at c.in_ok-block.ensures;
+  named = c.in_ok-fits.ensures.0 c.if-not-branch.false;
+  ends = c.if-goes_on.false;
+}
