@@ -1,5 +1,7 @@
 -- A text that goes on with a further piece.
 use Rattle.std.proofs.Common.{◌≡◌, ℕ, Bool, true, false, cond, eqb, List, [], ◌∷◌, ◌++◌, Option, None, Some, refl, sym, ◌∙◌, ap, subst}
+use Rattle.std.proofs.lemmas.Bool.{eqb-true, eq-eqb}
+use Rattle.std.proofs.lemmas.List.{append-nil}
 use Rattle.block_record.specs.declared.blocks.Kind.{Kind}
 use Rattle.fire_lines.specs.declared.faults.LineFault.{LineFault}
 use Rattle.fire_lines.specs.declared.faults.LineFault.TheVariants.{TooLong}
@@ -98,6 +100,68 @@ parts-onto separator (b ∷ p) piece q qs one cut =
       | false ↦ λ is. ap (onto_first b) (parts-onto separator p piece q qs (onto_parts b p (parts separator p) is some) cut)
     ] in
     both (eqb b separator) one
+
+-- ---- a line and the separator after it
+
+-- the text of some parts, with the separator between each two
+abbrev joined : ℕ → List (List ℕ) → List ℕ
+joined separator [] = []
+joined separator (p ∷ []) = p
+joined separator (p ∷ q ∷ more) = p ++ (separator ∷ joined separator (q ∷ more))
+
+joined-first : (separator : ℕ) (p : List ℕ) (ps : List (List ℕ)) → ((q : List ℕ) × ((more : List (List ℕ)) × (ps ≡ q ∷ more))) → joined separator (p ∷ ps) ≡ p ++ (separator ∷ joined separator ps)
+joined-first separator p [] some = absurd (let e = some.1.1 in cc)
+joined-first separator p (q ∷ more) some = refl
+
+joined-onto : (separator b : ℕ) (ps : List (List ℕ)) → ((q : List ℕ) × ((more : List (List ℕ)) × (ps ≡ q ∷ more))) → joined separator (onto_first b ps) ≡ b ∷ joined separator ps
+joined-onto separator b [] some = absurd (let e = some.1.1 in cc)
+joined-onto separator b (p ∷ []) some = refl
+joined-onto separator b (p ∷ q ∷ more) some = refl
+
+joined-parts : (separator : ℕ) (text : List ℕ) → joined separator (parts separator text) ≡ text
+joined-parts separator [] = refl
+joined-parts separator (b ∷ text) =
+    let later = joined-parts separator text in
+    let some = parts_some separator text in
+    let P : Bool → Type 0 = λ t. eqb b separator ≡ t → joined separator (cond t ([] ∷ parts separator text) (onto_first b (parts separator text))) ≡ b ∷ text in
+    let both : (t : Bool) → P t = λ t. elim t as P [
+      | true ↦ λ e. joined-first separator [] (parts separator text) some ∙ ap (λ l. separator ∷ l) later ∙ ap (λ (x : ℕ). x ∷ text) (sym (eqb-true b separator e))
+      | false ↦ λ e. joined-onto separator b (parts separator text) some ∙ ap (λ l. b ∷ l) later
+    ] in
+    both (eqb b separator) refl
+
+-- a text is its first part, the separator, and what the other parts are of
+pub cut_whole : (separator : ℕ) (text p rest : List ℕ) → parts separator text ≡ p ∷ parts separator rest → text ≡ p ++ (separator ∷ rest)
+cut_whole separator text p rest cut =
+    sym (joined-parts separator text) ∙ ap (joined separator) cut ∙ joined-first separator p (parts separator rest) (parts_some separator rest)
+    ∙ ap (λ (l : List ℕ). p ++ (separator ∷ l)) (joined-parts separator rest)
+
+same_first : (x y : List ℕ) (xs ys : List (List ℕ)) → x ∷ xs ≡ y ∷ ys → x ≡ y
+same_first x y xs ys e = cc
+
+onto_one : (separator b : ℕ) (p : List ℕ) → eqb b separator ≡ false → parts separator p ≡ p ∷ [] → parts separator (b ∷ p) ≡ (b ∷ p) ∷ []
+onto_one separator b p other one = rw (other, one) refl
+
+-- the first part has no separator
+first_one : (separator : ℕ) (text p : List ℕ) (more : List (List ℕ)) → parts separator text ≡ p ∷ more → parts separator p ≡ p ∷ []
+first_one separator [] p more is = subst (λ (q : List ℕ). parts separator q ≡ q ∷ []) (same_first [] p [] more is) refl
+first_one separator (b ∷ text) p more is =
+    let some = parts_some separator text in
+    let later = first_one separator text some.0 some.1.0 some.1.1 in
+    let P : Bool → Type 0 = λ t. eqb b separator ≡ t → cond t ([] ∷ parts separator text) (onto_first b (parts separator text)) ≡ p ∷ more → parts separator p ≡ p ∷ [] in
+    let both : (t : Bool) → P t = λ t. elim t as P [
+      | true ↦ λ e first. subst (λ (q : List ℕ). parts separator q ≡ q ∷ []) (same_first [] p (parts separator text) more first) refl
+      | false ↦ λ e first. subst (λ (q : List ℕ). parts separator q ≡ q ∷ []) (same_first (b ∷ some.0) p some.1.0 more (sym (ap (onto_first b) some.1.1) ∙ first)) (onto_one separator b some.0 e later)
+    ] in
+    both (eqb b separator) refl is
+
+-- the same first part with anything else after the separator
+pub cut_again : (separator : ℕ) (text p rest other : List ℕ) → parts separator text ≡ p ∷ parts separator rest → parts separator (p ++ (separator ∷ other)) ≡ p ∷ parts separator other
+cut_again separator text p rest other cut =
+    let same : eqb separator separator ≡ true = eq-eqb separator separator refl in
+    let next : parts separator (separator ∷ other) ≡ [] ∷ parts separator other = rw same refl in
+    parts-onto separator p (separator ∷ other) [] (parts separator other) (first_one separator text p (parts separator rest) cut) next
+    ∙ ap (λ (l : List ℕ). l ∷ parts separator other) (append-nil p)
 
 glue-last : (separator : ℕ) (p : List ℕ) (more : List (List ℕ)) (piece : List ℕ) → last_part (glue separator (p ∷ more) piece) ≡ last_part (parts separator (last_part (p ∷ more) ++ piece))
 unfolding glue

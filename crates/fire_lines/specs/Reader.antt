@@ -91,10 +91,27 @@ Answers result fault = MatchResult result (λ _. fault ≡ None) (λ f. fault �
 abbrev pub GrowsBy : List Slip → List Slip → List Slip → Type 0
 GrowsBy old new slips = new ≡ old ++ slips
 
--- blocks grew by a front of these slips
-abbrev pub GrowsByFront : List Slip → List Slip → List Slip → Type 0
-GrowsByFront old new slips = (front : List Slip) × IsPrefix front slips × GrowsBy old new front
-
 -- these are the slips that a text gives with a further piece, beyond those that it gives without
 abbrev pub AreFurther : ℕ → List ℕ → List ℕ → List Slip → Type 0
 AreFurther max text piece more = (received max (text ++ piece)).slips ≡ (received max text).slips ++ more
+
+-- a reader that has stopped because there was no memory: it keeps its limit, its kind and its number of lines
+abbrev pub without_memory : ReaderState → ReaderState
+without_memory r = record r { fault = Some Mem; partial = Some [] }
+
+-- a piece after this text was read: the answer is the fault of both together, the reader is that of both, and the blocks grew by those that the piece adds
+pub record IsRead (max : ℕ) (text piece : List ℕ) (result : Result Unit LineFault) (now : ReaderState) (before out : List Slip) : Type 0 where
+  pub answer : Answers result (received max (text ++ piece)).fault
+  pub state : now ≡ state_after max (text ++ piece)
+  pub more : List Slip
+  pub further : AreFurther max text piece more
+  pub grows : GrowsBy before out more
+
+-- within a piece after this text there was no memory: the blocks grew by those that a front of the piece adds, and kind and lines are those after this front
+pub record IsCutShort (max : ℕ) (text piece : List ℕ) (now : ReaderState) (before out : List Slip) : Type 0 where
+  pub front : List ℕ
+  pub is_front : IsPrefix front piece
+  pub more : List Slip
+  pub further : AreFurther max text front more
+  pub grows : GrowsBy before out more
+  pub state : now ≡ without_memory (state_after max (text ++ front))

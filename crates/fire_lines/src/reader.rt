@@ -6,8 +6,8 @@ ghost use Rattle.block_record.specs.declared.blocks.Slip.{Slip};
 ghost use Rattle.block_record.specs.Slips.{slip};
 ghost use Rattle.fire_lines.specs.Line.{says, init_says, block_says, kind_of, may_be_fire, is_too_long};
 ghost use Rattle.fire_lines.specs.Parts.{words_left, without_cr as cut_cr};
-ghost use Rattle.fire_lines.specs.Text.{received, tail_fault, next_line as line_after};
-ghost use Rattle.fire_lines.specs.Reader.{state_after, kept, kind_after, slips_of, fault_of, line_says, with_line, with_tail, UnlessMem, Answers, GrowsBy, GrowsByFront, AreFurther};
+ghost use Rattle.fire_lines.specs.Text.{tail_fault, next_line as line_after};
+ghost use Rattle.fire_lines.specs.Reader.{state_after, kept, kind_after, slips_of, fault_of, line_says, with_line, with_tail, without_memory, UnlessMem, Answers, GrowsBy, IsRead, IsCutShort};
 
 use crate::faults::LineFault;
 use crate::fields::read_block;
@@ -73,20 +73,15 @@ impl LineReader {
     /// Reads a further piece of the run's text, and appends the blocks of the lines that end in it,
     /// up to the first bad line.
     pub fn feed(&mut self, piece: &[u8], out: &mut Vec<Block>) -> Result<(), LineFault>
-        // Whatever text of the run was fed before, in any pieces, the answer is that to all of it.
-        ensures further { (text : List ℕ) → self.old ≡ state_after self.old.max text
-            → UnlessMem result ((more : List Slip) × AreFurther self.old.max text piece.now more
-            × GrowsBy (map slip out.old.items) (map slip out.new.items) more) }
-        ensures answer { (text : List ℕ) → self.old ≡ state_after self.old.max text
-            → UnlessMem result (Answers result (received self.old.max (text ++ piece.now)).fault) }
-        ensures state { (text : List ℕ) → self.old ≡ state_after self.old.max text
-            → UnlessMem result (self.new ≡ state_after self.old.max (text ++ piece.now)) }
-
-        // Without memory some of the first blocks are there, and the fault stays.
+        // Whatever text of the run was fed before, in any pieces, all of it was read, or a front of
+        // it where there was no memory.
+        ensures read { (text : List ℕ) → self.old ≡ state_after self.old.max text
+            → UnlessMem result (IsRead self.old.max text piece.now result self.new
+            (map slip out.old.items) (map slip out.new.items)) }
         ensures memory { (text : List ℕ) → self.old ≡ state_after self.old.max text
-            → result ≡ Err LineFault.Mem
-            → (more : List Slip) × AreFurther self.old.max text piece.now more
-            × GrowsByFront (map slip out.old.items) (map slip out.new.items) more }
+            → result ≡ Err LineFault.Mem → IsCutShort self.old.max text piece.now self.new
+            (map slip out.old.items) (map slip out.new.items) }
+        ensures limit { self.new.max ≡ self.old.max }
         ensures keeps { result ≡ Err LineFault.Mem → self.new.fault ≡ Some LineFault.Mem }
 
         // After a fault it answers the same fault, and gives nothing.
@@ -127,17 +122,13 @@ impl LineReader {
     /// Takes a piece, where there was no fault before.
     fn take_piece(&mut self, piece: &[u8], out: &mut Vec<Block>) -> Result<(), LineFault>
         requires { self.old.fault ≡ None }
-        ensures further { (text : List ℕ) → self.old ≡ state_after self.old.max text
-            → UnlessMem result ((more : List Slip) × AreFurther self.old.max text piece.now more
-            × GrowsBy (map slip out.old.items) (map slip out.new.items) more) }
-        ensures answer { (text : List ℕ) → self.old ≡ state_after self.old.max text
-            → UnlessMem result (Answers result (received self.old.max (text ++ piece.now)).fault) }
-        ensures state { (text : List ℕ) → self.old ≡ state_after self.old.max text
-            → UnlessMem result (self.new ≡ state_after self.old.max (text ++ piece.now)) }
+        ensures read { (text : List ℕ) → self.old ≡ state_after self.old.max text
+            → UnlessMem result (IsRead self.old.max text piece.now result self.new
+            (map slip out.old.items) (map slip out.new.items)) }
         ensures memory { (text : List ℕ) → self.old ≡ state_after self.old.max text
-            → result ≡ Err LineFault.Mem
-            → (more : List Slip) × AreFurther self.old.max text piece.now more
-            × GrowsByFront (map slip out.old.items) (map slip out.new.items) more }
+            → result ≡ Err LineFault.Mem → IsCutShort self.old.max text piece.now self.new
+            (map slip out.old.items) (map slip out.new.items) }
+        ensures limit { self.new.max ≡ self.old.max }
         ensures keeps { result ≡ Err LineFault.Mem → self.new.fault ≡ Some LineFault.Mem }
     {
         let mut rest = piece;
@@ -157,8 +148,11 @@ impl LineReader {
         ensures grows { (tail : List ℕ) → self.old.partial ≡ kept tail → UnlessMem result
             (GrowsBy (map slip out.old.items) (map slip out.new.items)
             (slips_of (line_says self.old (tail ++ front.now)))) }
-        ensures memory { result ≡ Err LineFault.Mem
+        ensures memory { (tail : List ℕ) → self.old.partial ≡ kept tail
+            → result ≡ Err LineFault.Mem → self.new ≡ without_memory self.old }
+        ensures none { result ≡ Err LineFault.Mem
             → (self.new.fault ≡ Some LineFault.Mem) × (out.new.items ≡ out.old.items) }
+        ensures limit { self.new.max ≡ self.old.max }
     {
         if self.partial.is_empty() && !self.passes {
             return self.take_line(without_cr(front), out);
@@ -176,8 +170,9 @@ impl LineReader {
         ensures grows { (tail : List ℕ) → self.old.partial ≡ kept tail → UnlessMem result
             (GrowsBy (map slip out.old.items) (map slip out.new.items)
             (slips_of (line_says self.old tail))) }
-        ensures memory { result ≡ Err LineFault.Mem
-            → (self.new.fault ≡ Some LineFault.Mem) × (out.new.items ≡ out.old.items) }
+        ensures memory { result ≡ Err LineFault.Mem → self.new ≡ without_memory self.old }
+        ensures none { result ≡ Err LineFault.Mem → out.new.items ≡ out.old.items }
+        ensures limit { self.new.max ≡ self.old.max }
     {
         if self.passes {
             // A line that is passed over says as little as an empty one.
@@ -198,8 +193,9 @@ impl LineReader {
             (says self.old.max (line_after self.old.lines) self.old.kind line.now) self.old) }
         ensures grows { UnlessMem result (GrowsBy (map slip out.old.items) (map slip out.new.items)
             (slips_of (says self.old.max (line_after self.old.lines) self.old.kind line.now))) }
-        ensures memory { result ≡ Err LineFault.Mem
-            → (self.new.fault ≡ Some LineFault.Mem) × (out.new.items ≡ out.old.items) }
+        ensures memory { result ≡ Err LineFault.Mem → self.new ≡ without_memory self.old }
+        ensures none { result ≡ Err LineFault.Mem → out.new.items ≡ out.old.items }
+        ensures limit { self.new.max ≡ self.old.max }
     {
         let taken = self.read_line(line, out);
         self.partial.clear();
@@ -221,7 +217,9 @@ impl LineReader {
         }) }
         ensures grows { UnlessMem result (GrowsBy (map slip out.old.items) (map slip out.new.items)
             (slips_of (says self.old.max (line_after self.old.lines) self.old.kind line.now))) }
-        ensures memory { result ≡ Err LineFault.Mem → out.new.items ≡ out.old.items }
+        ensures memory { result ≡ Err LineFault.Mem
+            → (self.new ≡ self.old) × (out.new.items ≡ out.old.items) }
+        ensures limit { self.new.max ≡ self.old.max }
     {
         let Some(text) = line.strip_prefix(b"FIRE ".as_slice()) else {
             return Ok(());
@@ -246,6 +244,8 @@ impl LineReader {
           kind = kind_after
               (init_says line self.old.kind (kind_of (words_left words.old))) self.old.kind;
         }) }
+        ensures memory { result ≡ Err LineFault.Mem → self.new ≡ self.old }
+        ensures limit { self.new.max ≡ self.old.max }
     {
         let named = read_kind(words).ok_or(LineFault::BadInit { line })?;
         match &self.kind {
@@ -287,7 +287,8 @@ impl LineReader {
             (tail_fault self.old.max self.old.lines (cut_cr (tail ++ bytes.now)))) }
         ensures state { (tail : List ℕ) → self.old.partial ≡ kept tail → UnlessMem result
             (self.new ≡ with_tail (tail ++ bytes.now) self.old) }
-        ensures memory { result ≡ Err LineFault.Mem → self.new.fault ≡ Some LineFault.Mem }
+        ensures memory { result ≡ Err LineFault.Mem → self.new ≡ without_memory self.old }
+        ensures limit { self.new.max ≡ self.old.max }
     {
         if self.passes {
             return Ok(());
