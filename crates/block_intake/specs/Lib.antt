@@ -1,0 +1,4 @@
+pub mod Answers
+pub mod Judged
+pub mod Taking
+pub mod Intakes
