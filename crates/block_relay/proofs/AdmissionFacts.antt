@@ -1,48 +1,22 @@
 -- The entries and the conflicts that an admission leaves, as the relay keeps them.
-use Rattle.std.proofs.Common.{arith, ◌≡◌, ◌<◌, ◌≤◌, ◌+◌, ◌-◌, ◌++◌, ℕ, Bool, true, false, inl, inr, ltb, List, length, map, take, reverse, replicate, Option, None, is_some, refl, sym, ◌∙◌, ap, leb}
+use Rattle.std.proofs.Common.{arith, ◌≡◌, ◌<◌, ◌+◌, ◌-◌, ◌++◌, ℕ, Bool, true, false, List, length, map, take, reverse, replicate, Option, None, is_some, refl, sym, ◌∙◌, ap}
 use Rattle.std.specs.Option.{option_or}
 use Rattle.std.proofs.Math.Seq.{take-append_seam}
-use Rattle.std.proofs.lemmas.Bool.{cases_Bool, le-leb, ltb-false, ltb-true}
 use Rattle.std.proofs.lemmas.List.{length-append, reverse-append, reverse-reverse}
 use Rattle.block_record.specs.declared.blocks.Slip.{Slip}
 use Rattle.block_record.specs.declared.blocks.Kind.{Kind as NodeKind}
 use Rattle.relay_model.specs.declared.answers.Conflict.{Conflict as Clash}
-use Rattle.relay_model.specs.Worlds.{World, descendants}
-use Rattle.relay_model.specs.Chronicles.{Entry, Admitted, added_by, kind_added}
+use Rattle.relay_model.specs.Worlds.{World, Limits, descendants}
+use Rattle.relay_model.specs.Chronicles.{Entry, Opened, Admitted, added_by, kind_added}
 use Rattle.relay_model.specs.Offers.{Intake, Admitted as AdmittedAs, answer_by, intake, judge, judge_limit, world_by}
 use Rattle.relay_model.specs.Verdicts as verdict
-use Rattle.relay_model.specs.Soundness.{IsSound}
-use Rattle.fork_db.specs.Forks.{Forks}
-use Rattle.wait_room.specs.Rooms.{Room}
+use Rattle.block_intake.specs.Intakes.{IsAlike, TakenIn, unnoted, world_taken}
+use Rattle.block_intake.specs.Taking.{intake_from}
+use Rattle.block_intake.proofs.IntakeFacts.{brings, intake_same, takes_rule}
 use Rattle.block_relay.specs.declared.marks.Mark.{Mark}
 use Rattle.block_relay.specs.declared.marks.Mark.TheVariants as mark
-use Rattle.block_relay.specs.Chronicle.{IsKept, world_told, entries_by, has_kind_mark, kind_entry, kind_mark}
-use Rattle.block_relay.specs.Judged.{HasParts}
-use Rattle.block_relay.specs.Taking.{intake_from}
-use Rattle.block_relay.proofs.CountFacts.{intake_within}
-use Rattle.block_relay.proofs.KeptFacts.{admission_marks, intake_same, marks_reverse, told}
-
--- a history with more room is the same to what is kept
-pub reserved : (w : World) (db after : Forks) (room : Room) (kept : Option NodeKind) (shut : Bool) (first run : ℕ) → IsKept w db room kept shut first run → after.history ≡ db.history → after.limit ≡ db.limit
-    → IsKept w after room kept shut first run
-reserved w db after room kept shut first run k h l = record {
-  parts = record { history = k.parts.history ∙ sym h; waiting = k.parts.waiting; wait_blocks = k.parts.wait_blocks; wait_bytes = k.parts.wait_bytes };
-  kind = k.kind;
-  closed = k.closed;
-  first_is = k.first_is;
-  run_is = k.run_is;
-  limit = k.limit ∙ sym l;
-  sound = k.sound;
-}
-
--- a block that links is taken where the limit has room
-pub takes_limit : (w : World) (s : Slip) (db : Forks) (room : Room) → HasParts w db room → w.limits.history ≡ db.limit → length db.history + (1 + descendants room.waiting s.id) ≤ db.limit
-    → judge_limit w s ≡ verdict.Admitted
-takes_limit w s db room parts limit le =
-    let n = ap length parts.history in
-    let d = ap (λ l. descendants l s.id) parts.waiting in
-    let fits : leb (length w.history + (1 + descendants w.waiting s.id)) w.limits.history ≡ true = le-leb _ _ (omega (arith, n, d, limit, le)) in
-    rw fits refl
+use Rattle.block_relay.specs.Chronicle.{IsKept, Told, entries_by, has_kind_mark, kind_entry, kind_mark, told_with, world_told}
+use Rattle.block_relay.proofs.KeptFacts.{admission_marks, marks_reverse, told}
 
 -- the blocks that an admission brings are entries of it
 added_takes : (w : World) (h room : List Slip) (kept root : Option NodeKind) (s : Slip) (more : List Slip) → w.history ≡ h → w.waiting ≡ room → w.kind ≡ kept
@@ -79,31 +53,27 @@ entries_after opening w h newest room waited kept root now s more ms marks n eh 
 pub conflicts_after : (old noted all : List Clash) (d : List Clash) → all ≡ old ++ noted → reverse noted ≡ d → reverse all ≡ d ++ reverse old
 conflicts_after old noted all d e f = ap reverse e ∙ reverse-append old noted ∙ ap (λ l. l ++ reverse old) f
 
--- the rule of a block that links, where the limit has room
-pub takes_rule : (w : World) (s : Slip) (db : Forks) (room : Room) (kept : Option NodeKind) (shut : Bool) (first run : ℕ) → IsKept w db room kept shut first run → judge w s ≡ judge_limit w s
-    → (db.limit < length db.history + (1 + descendants room.waiting s.id) → ⊥) → judge w s ≡ verdict.Admitted
-takes_rule w s db room kept shut first run k rule enough =
-    rule ∙ takes_limit w s db room k.parts k.limit (elim (cases_Bool (ltb db.limit (length db.history + (1 + descendants room.waiting s.id)))) [
-      | inl less ↦ absurd (enough (ltb-true _ _ less))
-      | inr more ↦ ltb-false _ _ more
-    ])
+-- what an intake told of an admission
+pub record IsTold (t new : TakenIn) (s : Slip) (from count : ℕ) (dropped : List Clash) : Type 0 where
+  pub start : from ≡ length t.forks.history
+  pub history : new.forks.history ≡ (intake_from t.forks.history t.room.waiting s).history
+  pub len : length new.forks.history ≡ count + length t.forks.history
+  pub turned : reverse dropped ≡ (intake_from t.forks.history t.room.waiting s).dropped
 
--- an admission brings no more blocks than itself and its waiting descendants
-pub brings_most : (w : World) (s : Slip) (db : Forks) (room : Room) → HasParts w db room → IsSound w → length (intake_from db.history room.waiting s).history ≤ length db.history + (1 + descendants room.waiting s.id)
-brings_most w s db room parts sound =
-    let same = intake_same w db.history room.waiting s parts.history parts.waiting in
-    let within = intake_within w s sound in
-    omega (arith, within, ap (λ (i : Intake). length i.history) same, ap length parts.history, ap (λ l. descendants l s.id) parts.waiting)
-
--- what it is answered
-pub said_after : (w : World) (h room : List Slip) (s : Slip) (from count : ℕ) (newest : List Slip) (dropped d : List Clash) → w.history ≡ h → w.waiting ≡ room → newest ≡ (intake_from h room s).history
-    → from ≡ length h → length newest ≡ count + length h → reverse dropped ≡ d → d ≡ (intake_from h room s).dropped → answer_by w s verdict.Admitted ≡ AdmittedAs from count dropped
-said_after w h room s from count newest dropped d eh er is start len turned all =
-    let same = intake_same w h room s eh er in
-    let n : length (intake w s).history - length w.history ≡ count = omega (arith, ap (λ (i : Intake). length i.history) same, ap length is, ap length eh, len) in
-    let f : length w.history ≡ from = omega (arith, ap length eh, start) in
-    let ds : reverse (intake w s).dropped ≡ dropped = ap (λ (i : Intake). reverse i.dropped) same ∙ ap reverse (sym all ∙ sym turned) ∙ reverse-reverse dropped in
-    ap (λ k. AdmittedAs k (length (intake w s).history - length w.history) (reverse (intake w s).dropped)) f ∙ ap (λ k. AdmittedAs from k (reverse (intake w s).dropped)) n ∙ ap (λ l. AdmittedAs from count l) ds
+pub told_by : (t new : TakenIn) (s : Slip) (from count : ℕ) (dropped : List Clash) → answer_by (world_taken t) s verdict.Admitted ≡ AdmittedAs from count dropped
+    → world_taken new ≡ unnoted (world_by (world_taken t) s verdict.Admitted) → IsTold t new s from count dropped
+told_by t new s from count dropped said left =
+    let history : new.forks.history ≡ (intake_from t.forks.history t.room.waiting s).history = ap (λ (w : World). w.history) left in
+    let start : length t.forks.history ≡ from = cc in
+    let n : length (intake_from t.forks.history t.room.waiting s).history - length t.forks.history ≡ count = cc in
+    let ds : reverse (intake_from t.forks.history t.room.waiting s).dropped ≡ dropped = cc in
+    let b = brings t s in
+    record {
+      start = sym start;
+      history = history;
+      len = omega (arith, n, ap length history, ap length b.1, length-append b.0 t.forks.history);
+      turned = ap reverse (sym ds) ∙ reverse-reverse (intake_from t.forks.history t.room.waiting s).dropped;
+    }
 
 -- the conflicts that an admission leaves are those of the blocks dropped before those noted
 pub clashes_same : (w : World) (h room : List Slip) (s : Slip) → w.history ≡ h → w.waiting ≡ room → (intake_from h room s).dropped ++ w.conflicts ≡ (world_by w s verdict.Admitted).conflicts
@@ -112,6 +82,32 @@ clashes_same w h room s eh er =
     ap (λ (i : Intake). i.dropped ++ w.conflicts) (sym same)
 
 -- what is kept is told by these entries, conflicts and kind
-pub kept_as : (es es' : List Entry) (cs cs' : List Clash) (db : Forks) (room : Room) (kind kind' : Option NodeKind) (shut : Bool) (first run : ℕ) → es ≡ es' → cs ≡ cs' → kind ≡ kind'
-    → IsKept (world_told (told es' cs')) db room kind' shut first run → IsKept (world_told (told es cs)) db room kind shut first run
-kept_as es es' cs cs' db room kind kind' shut first run ee ec ek k = rw (ee, ec, ek) k
+pub kept_as : (es es' : List Entry) (cs cs' : List Clash) (t : TakenIn) (kind kind' : Option NodeKind) (shut : Bool) (run size : ℕ) → es ≡ es' → cs ≡ cs' → kind ≡ kind'
+    → IsKept (world_told (told es' cs')) t kind' shut run size → IsKept (world_told (told es cs)) t kind shut run size
+kept_as es es' cs cs' t kind kind' shut run size ee ec ek k = rw (ee, ec, ek) k
+
+-- what is told after an admission
+pub record IsToldNow (old new : Told) (s : Slip) : Type 0 where
+  pub entries : new.entries ≡ added_by (world_told old) s verdict.Admitted ++ old.entries
+  pub conflicts : new.conflicts ≡ (world_by (world_told old) s verdict.Admitted).conflicts
+
+pub told_now : (t new : TakenIn) (run size : ℕ) (limits : Limits) (kept root now : Option NodeKind) (ms ms' : List Mark) (ws : List Slip) (cs cs' : List Clash) (s : Slip) (from count : ℕ) (dropped : List Clash)
+    → IsAlike (world_told (told_with t run limits size kept ms ws cs)) (world_taken t) → (world_told (told_with t run limits size kept ms ws cs)).kind ≡ kept → IsTold t new s from count dropped → new.first ≡ t.first
+    → now ≡ option_or root kept → ms' ≡ (ms ++ kind_mark root) ++ replicate count mark.Admitted → cs' ≡ cs ++ dropped
+    → kind_entry root ≡ kind_added kept t.forks.history → (is_some root ≡ true → kept ≡ None) → (kept ≡ None → has_kind_mark (reverse ms) ≡ false)
+    → IsToldNow (told_with t run limits size kept ms ws cs) (told_with new run limits size now ms' ws cs') s
+told_now t new run size limits kept root now ms ms' ws cs cs' s from count dropped a ek told first en em ec entry fresh none =
+    let w = world_told (told_with t run limits size kept ms ws cs) in
+    let h = t.forks.history in
+    let b = brings t s in
+    record {
+      entries =
+          ap (λ n. entries_by (Opened n run limits size) now (reverse ms') new.forks.history (reverse ws)) first
+          ∙ entries_after (Opened t.first run limits size) w h new.forks.history t.room.waiting (reverse ws) kept root now s b.0 ms ms' count a.history a.waiting ek b.1 told.history told.len en em entry fresh none;
+      conflicts = conflicts_after cs dropped cs' _ ec told.turned ∙ clashes_same w h t.room.waiting s a.history a.waiting;
+    }
+
+-- a block that links is admitted where the limit of the intake has room
+pub takes_alike : (w : World) (t : TakenIn) (s : Slip) → IsAlike w (world_taken t) → judge w s ≡ judge_limit w s → (t.forks.limit < length t.forks.history + (1 + descendants t.room.waiting s.id) → ⊥) → judge w s ≡ verdict.Admitted
+takes_alike w t s a rule enough =
+    takes_rule w s rule (λ less. enough (omega (arith, less, ap (λ (l : Limits). l.history) a.limits, ap length a.history, ap (λ l. descendants l s.id) a.waiting)))

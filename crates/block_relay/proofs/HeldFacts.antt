@@ -10,7 +10,7 @@ use Rattle.block_tree.proofs.PlaceFacts.{is_held}
 use Rattle.fork_db.specs.Batches.{HoldsWhatIs}
 use Rattle.fork_db.specs.declared.chunks.StepItem.{StepItem}
 use Rattle.block_relay.specs.Held.{HasBlock}
-use Rattle.block_relay.specs.Taking.{AreAllSome}
+use Rattle.block_intake.specs.Taking.{AreAllSome}
 
 some_at : (held : List (Option Block)) (at : ℕ) (o : Option Block) → AreAllSome held → slice_get held at ≡ Some o → IsSome o
 some_at [] at o all e = absurd (grind (arith, e))

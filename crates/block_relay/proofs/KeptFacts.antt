@@ -1,134 +1,111 @@
 -- What a relay keeps as it takes one more thing.
-use Rattle.std.proofs.Common.{arith, cond, leb, ltb, inl, inr, None, Some, IsTrue, ◌≡◌, ◌++◌, ℕ, Bool, true, false, List, [], ◌∷◌, Option, reverse, replicate, length, map, zero, suc, ◌+◌, refl, sym, ◌∙◌, ap, subst, append_assoc, is_some}
+use Rattle.std.proofs.Common.{arith, cond, ◌≡◌, ◌++◌, ◌+◌, ℕ, Bool, true, false, List, [], ◌∷◌, Option, None, Some, reverse, replicate, length, map, zero, suc, refl, sym, ◌∙◌, ap, subst, append_assoc, is_some}
 use Rattle.std.specs.Option.{option_or}
 use Rattle.std.proofs.lemmas.List.{replicate_more, reverse-append}
-use Rattle.std.proofs.lemmas.Bool.{cases_Bool, lt-ltb}
-use Rattle.block_record.specs.declared.blocks.Block.{Block}
+use Rattle.std.proofs.lemmas.Bool.{lt-ltb}
 use Rattle.block_record.specs.declared.blocks.Slip.{Slip}
 use Rattle.block_record.specs.declared.blocks.Kind.{Kind as NodeKind}
 use Rattle.relay_model.specs.declared.answers.Conflict.{Conflict as Clash}
-use Rattle.relay_model.specs.Worlds.{World, has_room}
-use Rattle.relay_model.specs.Chronicles.{Entry, Admitted, Closed, Kind, Stored, Waited, added, added_by, still_waits, world_of}
+use Rattle.relay_model.specs.Worlds.{World, Limits}
+use Rattle.relay_model.specs.Chronicles.{Entry, Opened, Admitted, Closed, Kind, Stored, Waited, added, added_by, still_waits, world_of}
 use Rattle.relay_model.specs.Soundness.{IsBlock, IsSound}
-use Rattle.relay_model.specs.Offers.{Intake, intake, kind_after, purged, clash, judge, judge_clash, judge_held, judge_linked, judge_parent, offered, tip_num, world_by}
+use Rattle.relay_model.specs.Offers.{kind_after, judge, offered, tip_num, world_by}
+use Rattle.relay_model.specs.Runs.{empty_world}
 use Rattle.relay_model.specs.Verdicts.{Verdict}
 use Rattle.relay_model.specs.Verdicts as verdict
 use Rattle.relay_model.proofs.public.Entries.{offer_adds}
-use Rattle.relay_model.proofs.public.Judged.{judged_waits, limit_takes}
-use Rattle.relay_model.proofs.public.Sound.{keeps_by, new_parts, none_found, same_sound}
-use Rattle.chain_model.specs.Ancestry.{find_id, has_id}
-use Rattle.chain_model.specs.Finality.{root_num}
-use Rattle.fork_db.specs.Forks.{Forks}
-use Rattle.wait_room.specs.Rooms.{Room, fits_in, with_block}
+use Rattle.relay_model.proofs.public.Judged.{judged_waits}
+use Rattle.relay_model.proofs.public.Sound.{empty_sound, keeps_by, none_found, same_sound}
+use Rattle.block_intake.specs.Intakes.{IsAlike, IsUnchanged, TakenIn, unnoted, world_taken}
+use Rattle.block_intake.proofs.AlikeFacts.{alike_on, judge_alike, world_alike}
+use Rattle.block_intake.proofs.IntakeFacts.{unchanged_world}
 use Rattle.block_relay.specs.declared.marks.Mark.{Mark}
-use Rattle.block_relay.specs.declared.payloads.Payloads.TheVariants as payloads
 use Rattle.block_relay.specs.declared.marks.Mark.TheVariants as mark
 use Rattle.block_relay.specs.Chronicle.{IsKept, Told, entries_by, has_kind_mark, kind_entry, kind_mark, world_told}
-use Rattle.block_relay.specs.Judged.{HasParts}
-use Rattle.block_relay.specs.Taking.{Dropping, HasLimits, intake_from}
-use Rattle.relay_model.proofs.public.Intakes.{taking_grows}
 
 abbrev pub told : List Entry → List Clash → Told
-told es cs = record { entries = es; conflicts = cs; payloads = payloads.Kept }
+told es cs = record { entries = es; conflicts = cs }
 
 pub marks_push : (ms : List Mark) (m : Mark) → reverse (ms ++ m ∷ []) ≡ m ∷ reverse ms
 marks_push ms m = reverse-append ms (m ∷ [])
 
+pub slips_push : (xs : List Slip) (s : Slip) → reverse (xs ++ s ∷ []) ≡ s ∷ reverse xs
+slips_push xs s = reverse-append xs (s ∷ [])
+
+-- nothing was taken yet
+pub opens : (t : TakenIn) (first run size : ℕ) (limits : Limits) → world_taken t ≡ empty_world first 0 limits → IsSound (world_told (told (Opened first run limits size ∷ []) []))
+    → IsKept (world_told (told (Opened first run limits size ∷ []) [])) t None false run size
+opens t first run size limits e sound = record {
+  alike = alike_on _ _ _ (record { first = refl; limits = refl; history = refl; waiting = refl }) (sym e);
+  kind = refl;
+  closed = refl;
+  run_is = refl;
+  size_is = refl;
+  sound = sound;
+}
+
 -- the relay is closed
-pub closes : (es : List Entry) (cs : List Clash) (db : Forks) (room : Room) (kept : Option NodeKind) (shut : Bool) (first run : ℕ) → IsKept (world_told (told es cs)) db room kept shut first run
-    → IsKept (world_told (told (Closed ∷ es) cs)) db room kept true first run
-closes es cs db room kept shut first run k = record {
-  parts = record { history = k.parts.history; waiting = k.parts.waiting; wait_blocks = k.parts.wait_blocks; wait_bytes = k.parts.wait_bytes };
+pub closes : (es : List Entry) (cs : List Clash) (t : TakenIn) (kept : Option NodeKind) (shut : Bool) (run size : ℕ) → IsKept (world_told (told es cs)) t kept shut run size
+    → IsKept (world_told (told (Closed ∷ es) cs)) t kept true run size
+closes es cs t kept shut run size k = record {
+  alike = record { first = k.alike.first; limits = k.alike.limits; history = k.alike.history; waiting = k.alike.waiting };
   kind = k.kind;
   closed = refl;
-  first_is = k.first_is;
   run_is = k.run_is;
-  limit = k.limit;
+  size_is = k.size_is;
   sound = same_sound (world_told (told es cs)) (world_told (told (Closed ∷ es) cs)) refl refl (λ none. none) refl k.sound;
 }
 
 -- a conflict is noted
-pub notes : (es : List Entry) (cs : List Clash) (c : Clash) (db : Forks) (room : Room) (kept : Option NodeKind) (shut : Bool) (first run : ℕ) → IsKept (world_told (told es cs)) db room kept shut first run
-    → IsKept (world_told (told es (c ∷ cs))) db room kept shut first run
-notes es cs c db room kept shut first run k = record {
-  parts = record { history = k.parts.history; waiting = k.parts.waiting; wait_blocks = k.parts.wait_blocks; wait_bytes = k.parts.wait_bytes };
+pub notes : (es : List Entry) (cs : List Clash) (c : Clash) (t : TakenIn) (kept : Option NodeKind) (shut : Bool) (run size : ℕ) → IsKept (world_told (told es cs)) t kept shut run size
+    → IsKept (world_told (told es (c ∷ cs))) t kept shut run size
+notes es cs c t kept shut run size k = record {
+  alike = record { first = k.alike.first; limits = k.alike.limits; history = k.alike.history; waiting = k.alike.waiting };
   kind = k.kind;
   closed = k.closed;
-  first_is = k.first_is;
   run_is = k.run_is;
-  limit = k.limit;
+  size_is = k.size_is;
   sound = same_sound (world_told (told es cs)) (world_told (told es (c ∷ cs))) refl refl (λ none. none) refl k.sound;
 }
 
--- a block that has to wait has room
-clash_waits : (w : World) (s : Slip) (o : Option Clash) → judge_clash w s o ≡ verdict.Waiting → ⊥
-clash_waits w s None e = limit_takes w s e
-clash_waits w s (Some c) e = absurd (grind (arith, e))
+-- the entries of a relay whose parts have new names
+pub entries_on : (new t : TakenIn) (run : ℕ) (limits : Limits) (size : ℕ) (k : Option NodeKind) (ms ms' : List Mark) (ws ws' : List Slip) → new.first ≡ t.first → new.forks.history ≡ t.forks.history → ms ≡ ms' → ws ≡ ws'
+    → entries_by (Opened new.first run limits size) k ms new.forks.history ws ≡ entries_by (Opened t.first run limits size) k ms' t.forks.history ws'
+entries_on new t run limits size k ms ms' ws ws' first history em ew = rw (first, history, em, ew) refl
 
-room_waits : (w : World) (s : Slip) (o : Option Slip) → judge_parent w s o ≡ verdict.Waiting → has_room w.limits w.waiting s ≡ true
-room_waits w s (Some p) e = absurd (clash_waits w s (clash w.history s) e)
-room_waits w s None e =
-    elim (cases_Bool (leb s.num (tip_num w.history))) [
-      | inl low ↦ absurd (grind (arith, e, low))
-      | inr high ↦ elim (cases_Bool (has_room w.limits w.waiting s)) [
-        | inl room ↦ room
-        | inr full ↦ absurd (grind (arith, e, high, full))
-      ]
-    ]
+-- memory was taken
+pub kept_on : (w : World) (old new : TakenIn) (kept : Option NodeKind) (shut : Bool) (run size : ℕ) → IsKept w old kept shut run size → IsUnchanged old new → IsKept w new kept shut run size
+kept_on w old new kept shut run size k u = record {
+  alike = alike_on w (world_taken old) (world_taken new) k.alike (sym (unchanged_world old new u));
+  kind = k.kind;
+  closed = k.closed;
+  run_is = k.run_is;
+  size_is = k.size_is;
+  sound = k.sound;
+}
 
-linked_room : (w : World) (s : Slip) (h : List Slip) → judge_linked w s h ≡ verdict.Waiting → has_room w.limits w.waiting s ≡ true
-linked_room w s [] e = absurd (limit_takes w s e)
-linked_room w s (t ∷ older) e =
-    elim (cases_Bool (leb s.num (root_num w.history))) [
-      | inl low ↦ absurd (grind (arith, e, low))
-      | inr high ↦ room_waits w s (find_id w.history s.parent_id) (rw high at e)
-    ]
-
-held_room : (w : World) (s : Slip) (o : Option Slip) → judge_held w s o ≡ verdict.Waiting → has_room w.limits w.waiting s ≡ true
-held_room w s (Some h) e = absurd (grind (arith, e))
-held_room w s None e =
-    elim (cases_Bool (ltb s.num w.first)) [
-      | inl low ↦ absurd (grind (arith, e, low))
-      | inr high ↦ linked_room w s w.history (rw high at e)
-    ]
-
-pub judged_room : (w : World) (s : Slip) → judge w s ≡ verdict.Waiting → has_room w.limits w.waiting s ≡ true
-judged_room w s e =
-    elim (cases_Bool w.closed) [
-      | inl shut ↦ absurd (grind (arith, e, shut))
-      | inr open' ↦ held_room w s (find_id (w.waiting ++ w.history) s.id) (rw open' at e)
-    ]
-
--- the room of the relay has room for it, and not its id
-pub fits_room : (w : World) (s : Slip) (db : Forks) (room : Room) → HasParts w db room → judge w s ≡ verdict.Waiting → IsTrue (fits_in room s.length)
-fits_room w s db room parts e =
-    let has : has_room w.limits w.waiting s ≡ true = judged_room w s e in
-    rw (← parts.waiting, ← parts.wait_blocks, ← parts.wait_bytes) has
-
-pub lacks_room : (w : World) (s : Slip) (db : Forks) (room : Room) → HasParts w db room → judge w s ≡ verdict.Waiting → has_id room.waiting s.id ≡ false
-lacks_room w s db room parts e = rw (← parts.waiting) (new_parts w s (judged_waits w s e).new).0
+-- an open relay judges as its intake does
+pub judged_same : (w : World) (t : TakenIn) (kept : Option NodeKind) (shut : Bool) (run size : ℕ) (s : Slip) → IsKept w t kept shut run size → w.closed ≡ false → judge w s ≡ judge (world_taken t) s
+judged_same w t kept shut run size s k shown = judge_alike w (world_taken t) s k.alike shown
 
 -- a block waits
-pub waits : (es : List Entry) (cs : List Clash) (db : Forks) (room : Room) (kept : Option NodeKind) (shut : Bool) (first run : ℕ) (s : Slip) (b : Option Block) → IsKept (world_told (told es cs)) db room kept shut first run
-    → judge (world_told (told es cs)) s ≡ verdict.Waiting → IsBlock s → IsKept (world_told (told (Waited s ∷ es) cs)) db (with_block room s b) kept shut first run
-waits es cs db room kept shut first run s b k e block =
+pub waits : (es : List Entry) (cs : List Clash) (t new : TakenIn) (kept : Option NodeKind) (shut : Bool) (run size : ℕ) (s : Slip) → IsKept (world_told (told es cs)) t kept shut run size
+    → judge (world_told (told es cs)) s ≡ verdict.Waiting → IsBlock s → world_taken new ≡ world_by (world_taken t) s verdict.Waiting → IsKept (world_told (told (Waited s ∷ es) cs)) new kept shut run size
+waits es cs t new kept shut run size s k e block left =
     let w = world_told (told es cs) in
     let v = world_told (told (Waited s ∷ es) cs) in
     let is = judged_waits w s e in
     let test : still_waits w.history s ≡ true = rw (none_found w.history s.parent_id is.orphan, lt-ltb (tip_num w.history) s.num is.above) refl in
     let more : v.waiting ≡ s ∷ w.waiting = ap (λ b. cond b (s ∷ w.waiting) w.waiting) test in
+    let a = alike_on _ _ _ (world_alike w (world_taken t) s verdict.Waiting k.alike) (sym left) in
     record {
-      parts = record { history = k.parts.history; waiting = more ∙ ap (λ l. s ∷ l) k.parts.waiting; wait_blocks = k.parts.wait_blocks; wait_bytes = k.parts.wait_bytes };
+      alike = record { first = a.first; limits = a.limits; history = a.history; waiting = more ∙ a.waiting };
       kind = k.kind;
       closed = k.closed;
-      first_is = k.first_is;
       run_is = k.run_is;
-      limit = k.limit;
+      size_is = k.size_is;
       sound = same_sound (world_by w s verdict.Waiting) v refl (sym more) (λ none. none) refl (keeps_by w s k.sound block verdict.Waiting e);
     }
-
-pub slips_push : (xs : List Slip) (s : Slip) → reverse (xs ++ s ∷ []) ≡ s ∷ reverse xs
-slips_push xs s = reverse-append xs (s ∷ [])
 
 -- without a mark of the kind the entries do not speak of it
 pub other_kind : (opening : Entry) (k j : Option NodeKind) (ms : List Mark) → has_kind_mark ms ≡ false → (h w : List Slip) → entries_by opening k ms h w ≡ entries_by opening j ms h w
@@ -142,16 +119,15 @@ other_kind opening k j (mark.Stored at ∷ ms) e h w = ap (λ l. Stored at ∷ l
 other_kind opening k j (mark.Closed ∷ ms) e h w = ap (λ l. Closed ∷ l) (other_kind opening k j ms e h w)
 
 -- the first kind is kept
-pub keeps_kind : (es : List Entry) (cs : List Clash) (db : Forks) (room : Room) (kept : Option NodeKind) (shut : Bool) (first run : ℕ) (k : NodeKind) → IsKept (world_told (told es cs)) db room kept shut first run
-    → IsKept (world_told (told (Kind k ∷ es) cs)) db room (Some k) shut first run
-keeps_kind es cs db room kept shut first run k is = record {
-  parts = record { history = is.parts.history; waiting = is.parts.waiting; wait_blocks = is.parts.wait_blocks; wait_bytes = is.parts.wait_bytes };
+pub keeps_kind : (es : List Entry) (cs : List Clash) (t : TakenIn) (kept : Option NodeKind) (shut : Bool) (run size : ℕ) (k : NodeKind) → IsKept (world_told (told es cs)) t kept shut run size
+    → IsKept (world_told (told (Kind k ∷ es) cs)) t (Some k) shut run size
+keeps_kind es cs t kept shut run size k is = record {
+  alike = record { first = is.alike.first; limits = is.alike.limits; history = is.alike.history; waiting = is.alike.waiting };
   kind = refl;
   closed = is.closed;
-  first_is = is.first_is;
   run_is = is.run_is;
-  limit = is.limit;
-  sound = same_sound (world_told (told es cs)) (world_told (told (Kind k ∷ es) cs)) refl refl (λ none. absurd (grind (arith, none))) refl is.sound;
+  size_is = is.size_is;
+  sound = same_sound (world_told (told es cs)) (world_told (told (Kind k ∷ es) cs)) refl refl (λ (none : Some k ≡ None). absurd (grind (arith, none))) refl is.sound;
 }
 
 -- a world with other conflicts
@@ -182,7 +158,7 @@ left_same w cs s (verdict.HistoryFull need) = refl
 left_same w cs s verdict.Admitted = refl
 
 -- the entries and the conflicts after an offer stand for the world that it leaves
-pub told_offered : (es : List Entry) (cs : List Clash) (s : Slip) → IsSound (world_told (told es cs)) → IsBlock s
+told_offered : (es : List Entry) (cs : List Clash) (s : Slip) → IsSound (world_told (told es cs)) → IsBlock s
     → world_told (told (added (world_told (told es cs)) s ++ es) (offered (world_told (told es cs)) s).world.conflicts) ≡ (offered (world_told (told es cs)) s).world
 told_offered es cs s sound block =
     let w = world_of es in
@@ -190,6 +166,13 @@ told_offered es cs s sound block =
     ap (λ l. world_told (told (l ++ es) left)) (added_same w cs s (judge w s))
     ∙ ap (λ v. with_conflicts v left) (offer_adds es s (same_sound (world_told (told es cs)) w refl refl (λ none. none) refl sound) block)
     ∙ left_same w cs s (judge w s)
+
+-- so they do where a rule decides it
+pub told_left : (es : List Entry) (cs : List Clash) (s : Slip) (v : Verdict) → IsSound (world_told (told es cs)) → IsBlock s → judge (world_told (told es cs)) s ≡ v
+    → world_told (told (added_by (world_told (told es cs)) s v ++ es) (world_by (world_told (told es cs)) s v).conflicts) ≡ world_by (world_told (told es cs)) s v
+told_left es cs s v sound block e =
+    let w = world_told (told es cs) in
+    subst (λ (x : Verdict). world_told (told (added_by w s x ++ es) (world_by w s x).conflicts) ≡ world_by w s x) e (told_offered es cs s sound block)
 
 -- a row of one mark, turned over
 row_reverse : (n : ℕ) (m : Mark) → reverse (replicate n m) ≡ replicate n m
@@ -235,38 +218,19 @@ pub admission_kind : (kept root : Option NodeKind) (ms : List Mark) (n : ℕ) �
 admission_kind kept None ms n none e = admitted_kind n ms ∙ none e
 admission_kind kept (Some k) ms n none e = absurd (grind (arith, e))
 
--- what follows an admission hangs on the history and on what waits alone
-pub intake_same : (w : World) (h room : List Slip) (s : Slip) → w.history ≡ h → w.waiting ≡ room → intake w s ≡ intake_from h room s
-intake_same w h room s eh er = rw (eh, er) refl
-
 -- a block that is admitted, with all that follows
-pub admits : (es : List Entry) (cs : List Clash) (db after : Forks) (room left : Room) (drops spent : Dropping) (kept : Option NodeKind) (shut : Bool) (first run : ℕ) (s : Slip) → IsKept (world_told (told es cs)) db room kept shut first run
-    → judge (world_told (told es cs)) s ≡ verdict.Admitted → IsBlock s
-    → after.history ≡ (intake_from db.history room.waiting s).history → left.waiting ≡ purged after.history (intake_from db.history room.waiting s).waiting → HasLimits db room drops after left spent
-    → IsKept (world_told (told (added_by (world_told (told es cs)) s verdict.Admitted ++ es) (world_by (world_told (told es cs)) s verdict.Admitted).conflicts)) after left (kind_after kept db.history) shut first run
-admits es cs db after room left drops spent kept shut first run s k e block h r limits =
+pub admits : (es : List Entry) (cs : List Clash) (t new : TakenIn) (kept : Option NodeKind) (shut : Bool) (run size : ℕ) (s : Slip) → IsKept (world_told (told es cs)) t kept shut run size
+    → judge (world_told (told es cs)) s ≡ verdict.Admitted → IsBlock s → world_taken new ≡ unnoted (world_by (world_taken t) s verdict.Admitted)
+    → IsKept (world_told (told (added_by (world_told (told es cs)) s verdict.Admitted ++ es) (world_by (world_told (told es cs)) s verdict.Admitted).conflicts)) new (kind_after kept t.forks.history) shut run size
+admits es cs t new kept shut run size s k e block left =
     let w = world_told (told es cs) in
-    let d = intake_from db.history room.waiting s in
-    let same = intake_same w db.history room.waiting s k.parts.history k.parts.waiting in
-    let brought : world_told (told (added_by w s verdict.Admitted ++ es) (world_by w s verdict.Admitted).conflicts) ≡ world_by w s verdict.Admitted =
-    subst (λ v. world_told (told (added_by w s v ++ es) (world_by w s v).conflicts) ≡ world_by w s v) e (told_offered es cs s k.sound block) in
-    subst (λ (v : World). IsKept v after left (kind_after kept db.history) shut first run) (sym brought) (record {
-      parts = record {
-        history = ap (λ (i : Intake). i.history) same ∙ sym h;
-        waiting = ap (λ (i : Intake). purged i.history i.waiting) same ∙ ap (λ l. purged l d.waiting) (sym h) ∙ sym r;
-        wait_blocks = k.parts.wait_blocks ∙ sym limits.blocks;
-        wait_bytes = k.parts.wait_bytes ∙ sym limits.bytes;
-      };
-      kind = rw (k.kind, k.parts.history) refl;
+    let a = world_alike w (world_taken t) s verdict.Admitted k.alike in
+    let n = alike_on _ (unnoted (world_by (world_taken t) s verdict.Admitted)) _ (record { first = a.first; limits = a.limits; history = a.history; waiting = a.waiting }) (sym left) in
+    subst (λ (v : World). IsKept v new (kind_after kept t.forks.history) shut run size) (sym (told_left es cs s verdict.Admitted k.sound block e)) (record {
+      alike = n;
+      kind = rw (k.kind, k.alike.history) refl;
       closed = k.closed;
-      first_is = k.first_is;
       run_is = k.run_is;
-      limit = k.limit ∙ sym limits.history;
+      size_is = k.size_is;
       sound = keeps_by w s k.sound block verdict.Admitted e;
     })
-
--- the blocks that an admission brings
-pub brings : (h w : List Slip) (s : Slip) → (more : List Slip) × (more ++ h ≡ (intake_from h w s).history)
-brings h w s =
-    let grows = taking_grows (length w) (record { history = s ∷ h; waiting = w; dropped = [] }) in
-    (grows.0 ++ s ∷ [], append_assoc grows.0 (s ∷ []) h ∙ grows.1)

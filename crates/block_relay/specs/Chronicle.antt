@@ -1,25 +1,21 @@
 -- What callers see of a relay, and what it keeps of it.
-use Rattle.std.specs.Prelude.{ℕ, ◌≡◌, Bool, true, false, List, [], ◌∷◌, ◌++◌, Option, None, Some}
+use Rattle.std.specs.Prelude.{ℕ, ◌≡◌, Bool, true, false, List, [], ◌∷◌, ◌++◌, reverse, Option, None, Some}
 use Rattle.std.specs.Str.{bytes_eq}
 use Rattle.block_record.specs.declared.blocks.Slip.{Slip}
 use Rattle.block_record.specs.declared.blocks.Kind.{Kind as NodeKind}
 use Rattle.relay_model.specs.declared.answers.Conflict.{Conflict as Clash}
 use Rattle.relay_model.specs.Worlds.{World, Limits}
-use Rattle.relay_model.specs.Chronicles.{Entry, Kind, Admitted, Waited, Stored, Closed, world_of}
+use Rattle.relay_model.specs.Chronicles.{Entry, Opened, Kind, Admitted, Waited, Stored, Closed, world_of}
 use Rattle.relay_model.specs.Soundness.{IsSound}
-use Rattle.fork_db.specs.Forks.{Forks}
-use Rattle.wait_room.specs.Rooms.{Room}
+use Rattle.block_intake.specs.Intakes.{IsAlike, TakenIn, world_taken}
 use Rattle.block_relay.specs.declared.limits.Limits.{Limits as PlantLimits}
-use Rattle.block_relay.specs.declared.payloads.Payloads.{Payloads}
 use Rattle.block_relay.specs.declared.marks.Mark.{Mark}
 use Rattle.block_relay.specs.declared.marks.Mark.TheVariants as mark
-use Rattle.block_relay.specs.Judged.{HasParts}
 
--- the entries of the chronicle, and all conflicts that were noted, both with what came last first, and whether payloads are kept
+-- the entries of the chronicle, and all conflicts that were noted, both with what came last first
 pub record Told : Type 0 where
   pub entries : List Entry
   pub conflicts : List Clash
-  pub payloads : Payloads
 
 -- the world that a relay stands for
 abbrev pub world_told : Told → World
@@ -53,14 +49,20 @@ entries_by opening k (mark.Waited ∷ ms) history waited = with_newest Waited (�
 entries_by opening k (mark.Stored at ∷ ms) history waited = Stored at ∷ entries_by opening k ms history waited
 entries_by opening k (mark.Closed ∷ ms) history waited = Closed ∷ entries_by opening k ms history waited
 
+-- what is told of a relay that has taken in so much, by what it keeps beside that
+abbrev pub told_with : TakenIn → ℕ → Limits → ℕ → Option NodeKind → List Mark → List Slip → List Clash → Told
+told_with t run limits size k marks waited conflicts = record {
+  entries = entries_by (Opened t.first run limits size) k (reverse marks) t.forks.history (reverse waited);
+  conflicts = reverse conflicts;
+}
+
 -- what a relay keeps beside its entries is what they stand for, and their world is sound
-pub record IsKept (w : World) (db : Forks) (room : Room) (kept : Option NodeKind) (shut : Bool) (first run : ℕ) : Type 0 where
-  pub parts : HasParts w db room
+pub record IsKept (w : World) (taken : TakenIn) (kept : Option NodeKind) (shut : Bool) (run size : ℕ) : Type 0 where
+  pub alike : IsAlike w (world_taken taken)
   pub kind : w.kind ≡ kept
   pub closed : w.closed ≡ shut
-  pub first_is : w.first ≡ first
   pub run_is : w.run ≡ run
-  pub limit : w.limits.history ≡ db.limit
+  pub size_is : w.size ≡ size
   pub sound : IsSound w
 
 -- the entries after the relay is closed: a second time adds nothing

@@ -1,20 +1,19 @@
-//! A history that several nodes feed: what an offered block is answered.
+//! A history that several nodes feed: what an offered block is answered, and what a client at any
+//! place is given next.
 #![tactic(auto)]
 
 mod answers;
-mod drops;
-mod judged;
+mod kinds;
 mod limits;
 mod marks;
-mod payloads;
+mod memory;
+mod notes;
 mod relay;
-mod taking;
 #[cfg(test)]
 mod tests;
 
-pub use answers::{KindFault, OfferFault, Offered};
+pub use answers::KindFault;
+pub use block_intake::{Conflict, ConflictKind, OfferFault, Offered};
 pub use limits::Limits;
-pub use payloads::Payloads;
 pub use relay::Relay;
 pub use relay_look::{Look, LookFault, Position};
-pub use relay_model::{Conflict, ConflictKind};

@@ -1,5 +1,11 @@
 //! The limits of a plant.
 
+ghost use Rattle.std.specs.Prelude.{◌≡◌};
+ghost use Rattle.block_intake.specs.Intakes.{limits_in};
+ghost use Rattle.block_relay.specs.Chronicle.{limits_told};
+
+use block_intake::IntakeLimits;
+
 /// How much a plant takes in and keeps.
 #[derive(Clone, Copy, PartialEq, Eq, Debug)]
 pub struct Limits {
@@ -19,4 +25,15 @@ pub struct Limits {
     pub deaths: u32,
     /// The blocks whose payloads are held.
     pub hold: u32,
+}
+
+/// The limits of what is taken in.
+pub fn intake_limits(limits: Limits) -> IntakeLimits
+    ensures { limits_in result ≡ limits_told limits }
+{
+    IntakeLimits {
+        history: limits.history,
+        wait_blocks: limits.wait_blocks,
+        wait_bytes: limits.wait_bytes,
+    }
 }

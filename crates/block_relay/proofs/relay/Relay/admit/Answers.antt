@@ -1,125 +1,131 @@
-use Rattle.std.proofs.Common.{arith, ◌≡◌, ◌+◌, ◌-◌, ◌++◌, List, length, reverse, replicate, ap, sym, ◌∙◌, subst, refl}
-use Rattle.std.proofs.lemmas.List.{length-append}
+use Rattle.std.proofs.Common.{arith, ◌≡◌, ◌++◌, List, length, Option, Ok, Result, false, reverse, replicate, refl, ap, sym, ◌∙◌, subst}
 use Rattle.block_record.specs.declared.blocks.Slip.{Slip}
-use Rattle.block_tree.specs.Places.{place_of}
-use Rattle.relay_model.specs.Chronicles.{Opened}
-use Rattle.relay_model.specs.Worlds.{usual_size}
-use Rattle.relay_model.specs.Offers.{judge, judge_limit}
+use Rattle.block_record.specs.Slips.{slip}
+use Rattle.fork_db.specs.Claims.{IsLinkOf}
+use Rattle.relay_model.specs.Offers.{Admitted, answer_by, judge, judge_limit, world_by}
+use Rattle.relay_model.specs.Soundness.{IsBlock}
 use Rattle.relay_model.specs.Verdicts as verdict
+use Rattle.relay_model.specs.Worlds.{World, descendants}
+use Rattle.block_intake.specs.declared.answers.Offered.{Offered}
+use Rattle.block_intake.specs.declared.answers.Offered.TheVariants as answer
+use Rattle.block_intake.specs.declared.answers.OfferFault.{OfferFault}
+use Rattle.wait_room.specs.Rooms.{Room}
+use Rattle.block_intake.specs.Intakes.{unnoted, world_taken}
+use Rattle.block_intake.proofs.AlikeFacts.{answer_alike}
+use Rattle.block_intake.proofs.IntakeFacts.{unchanged_held, unchanged_world}
 use Rattle.block_relay.specs.declared.marks.Mark.TheVariants as mark
-use Rattle.block_relay.specs.Chronicle.{Told, entries_by, has_kind_mark, kind_mark, limits_told, world_told}
-use Rattle.block_relay.specs.Taking.{intake_from}
-use Rattle.block_relay.proofs.AdmissionFacts.{brings_most, clashes_same, conflicts_after, kept_as, entries_after, reserved, said_after, takes_rule}
+use Rattle.block_relay.specs.Chronicle.{Told, has_kind_mark, kind_mark, limits_told, told_with, world_told}
+use Rattle.block_relay.specs.Done.{IsDone}
+use Rattle.block_relay.proofs.AdmissionFacts.{kept_as, takes_alike, told_by, told_now}
 use Rattle.block_relay.proofs.DoneFacts.{changed}
-use Rattle.block_relay.proofs.KeptFacts.{admission_kind, admits, brings, marks_reverse, told}
+use Rattle.block_relay.proofs.KeptFacts.{admission_kind, admits, judged_same, kept_on, marks_reverse}
 use Rattle.block_relay.proofs.relay.Relay.admit.Goals as goal
 
-pub admit-requires-clause-can : goal.admit-requires-clause-can
-admit-requires-clause-can c =
+pub admit-from-requires-clause-own : goal.admit-from-requires-clause-own
+admit-from-requires-clause-own c = c.in_ok-slip.ensures ∙ ap slip c.deref.ensures
+
+pub admit-from-requires-clause-block : goal.admit-from-requires-clause-block
+admit-from-requires-clause-block c = subst IsBlock (sym (c.in_ok-slip.ensures ∙ ap slip c.deref.ensures)) c.args.block.value.parent_first
+
+pub admit-from-requires-clause-takes : goal.admit-from-requires-clause-takes
+admit-from-requires-clause-takes c =
     let t = c.self.inside in
-    let s = c.args.slip in
-    let opening = Opened t.first t.run (limits_told t.limits) usual_size in
-    let w = world_told (told (entries_by opening t.kind (reverse t.marks.items) t.db.history (reverse t.waited.items)) (reverse t.conflicts.items)) in
+    let x = c.in_ok-slip.slip in
     let k = c.self.invariant.0 in
-    let rule = subst (λ (v : Told). judge (world_told v) s ≡ judge_limit (world_told v) s) (sym c.self.view_is) c.requires.links in
-    record {
-      world = w;
-      parts = (reserved w t.db c.make_room.new.db t.room t.kind t.closed t.first t.run k c.make_room.ensures.history c.make_room.ensures.limit).parts;
-      sound = k.sound;
-      block = c.requires.block;
-      takes = takes_rule w s t.db t.room t.kind t.closed t.first t.run k rule (λ less. absurd (grind (arith, c.in_ok-follow.ensures.limited less)));
-    }
+    let w = world_told (told_with t.intake t.run (limits_told t.limits) t.size t.kind t.marks.items t.waited.items t.conflicts.items) in
+    let shown = subst (λ (v : Told). (world_told v).closed ≡ false) (sym c.self.view_is) c.requires.open in
+    let rule = subst (λ (y : Slip). judge w y ≡ judge_limit w y) (sym (c.in_ok-slip.ensures ∙ ap slip c.deref.ensures)) (subst (λ (v : Told). judge (world_told v) (slip c.args.block.value) ≡ judge_limit (world_told v) (slip c.args.block.value)) (sym c.self.view_is) c.requires.links) in
+    let takes = takes_alike w t.intake x k.alike rule (λ less. absurd (grind (arith, c.in_ok-reserve_admission.ensures.limited less))) in
+    ap (λ (v : World). judge v x) (unchanged_world t.intake c.reserve_admission.new.intake c.reserve_admission.ensures.unchanged) ∙ sym (judged_same w t.intake t.kind t.closed t.run t.size x k shown) ∙ takes
 
-pub overflow_sub-count : goal.overflow_sub-count
-overflow_sub-count c =
-    let b = brings c.make_room.new.db.history c.self.inside.room.waiting c.args.slip in
-    omega (arith, c.len-from.ensures.len, c.len.ensures.len, ap length c.make_room.ensures.history, ap length c.admit.ensures.history, ap length b.1, length-append b.0 c.make_room.new.db.history)
+pub admit-from-requires-clause-linked : goal.admit-from-requires-clause-linked
+admit-from-requires-clause-linked c =
+    let t = c.self.inside in
+    let s = slip c.args.block.value in
+    let h = subst (λ (v : Told). IsLinkOf (world_told v).history s c.args.linked) (sym c.self.view_is) c.requires.linked in
+    let g = subst (λ (l : List Slip). IsLinkOf l s c.args.linked) (c.self.invariant.0.alike.history ∙ sym c.reserve_admission.ensures.unchanged.history) h in
+    subst (λ (x : Slip). IsLinkOf c.reserve_admission.new.intake.forks.history x c.args.linked) (sym (c.in_ok-slip.ensures ∙ ap slip c.deref.ensures)) g
 
-pub admit-requires-clause-parent : goal.admit-requires-clause-parent
-admit-requires-clause-parent c =
-    ap (λ (l : List Slip). place_of l c.args.slip.parent_id) (c.make_room.ensures.history ∙ sym c.self.invariant.0.parts.history ∙ ap (λ (v : Told). (world_told v).history) c.self.view_is)
-    ∙ c.requires.parent
+pub admit-from-requires-clause-room : goal.admit-from-requires-clause-room
+admit-from-requires-clause-room c =
+    let same = ap (λ (r : Room). descendants r.waiting c.in_ok-slip.slip.id) c.reserve_admission.ensures.unchanged.room in
+    omega (arith, same, c.in_ok-reserve_admission.ensures.ok.history)
 
-pub admit-requires-clause-empty : goal.admit-requires-clause-empty
-admit-requires-clause-empty c = c.reserve.ensures.conflicts ∙ c.self.invariant.4
-
-pub finish-dropped-requires : goal.finish-dropped-requires
-finish-dropped-requires c =
-    omega (arith, c.admit.ensures.limits.conflicts, ap length (c.reserve.ensures.conflicts ∙ c.self.invariant.4), c.in_ok-reserve.ensures.spare, c.in_ok-reserve_admitted.ensures.ok.1)
+pub admit-from-requires-clause-spare : goal.admit-from-requires-clause-spare
+admit-from-requires-clause-spare c =
+    let same = ap (λ (r : Room). descendants r.waiting c.in_ok-slip.slip.id) c.reserve_admission.ensures.unchanged.room in
+    omega (arith, same, c.in_ok-reserve_admission.ensures.ok.spare)
 
 pub mark_admitted-requires : goal.mark_admitted-requires
 mark_admitted-requires c =
-    let t = c.self.inside in
-    let k = c.self.invariant.0 in
-    let most = brings_most _ c.args.slip t.db t.room k.parts k.sound in
-    let is : c.admit.new.db.history ≡ (intake_from t.db.history t.room.waiting c.args.slip).history =
-    c.admit.ensures.history ∙ ap (λ (l : List Slip). (intake_from l t.room.waiting c.args.slip).history) c.make_room.ensures.history in
-    omega (arith, most, ap length is, c.len-from.ensures.len, c.len.ensures.len, c.in_ok-follow.ensures.ok.0, c.in_ok-reserve_admitted.ensures.ok.0, c.keep_root_kind.ensures.len, c.keep_root_kind.ensures.capacity)
+    let same = ap (λ (r : Room). descendants r.waiting c.in_ok-slip.slip.id) c.reserve_admission.ensures.unchanged.room in
+    omega (arith, same, c.admit-from.ensures.most, c.in_ok-reserve_admission.ensures.ok.marks, c.keep_root_kind.ensures.len, c.keep_root_kind.ensures.capacity)
+
+pub note_dropped-requires-clause-room : goal.note_dropped-requires-clause-room
+note_dropped-requires-clause-room c =
+    let same = ap (λ (r : Room). descendants r.waiting c.in_ok-slip.slip.id) c.reserve_admission.ensures.unchanged.room in
+    omega (arith, same, ap length c.deref-2.ensures.value, c.admit-from.ensures.some, c.admit-from.ensures.most, c.in_ok-reserve_admission.ensures.ok.conflicts)
+
+pub note_dropped-requires-clause-buffers : goal.note_dropped-requires-clause-buffers
+note_dropped-requires-clause-buffers c =
+    let same = ap (λ (r : Room). descendants r.waiting c.in_ok-slip.slip.id) c.reserve_admission.ensures.unchanged.room in
+    omega (arith, same, ap length c.deref-2.ensures.value, c.admit-from.ensures.some, c.admit-from.ensures.most, c.in_ok-reserve_admission.ensures.ok.buffers)
 
 pub invariant_of-self-2 : goal.invariant_of-self-2
 invariant_of-self-2 c =
     let t = c.self.inside in
-    let s = c.args.slip in
-    let root = c.in_ok-root_kind.root_kind in
-    let opening = Opened t.first t.run (limits_told t.limits) usual_size in
-    let waited = reverse t.waited.items in
-    let h = t.db.history in
-    let es = entries_by opening t.kind (reverse t.marks.items) h waited in
-    let cs = reverse t.conflicts.items in
-    let w = world_told (told es cs) in
+    let x = c.in_ok-slip.slip in
     let k = c.self.invariant.0 in
-    let rule = subst (λ (v : Told). judge (world_told v) s ≡ judge_limit (world_told v) s) (sym c.self.view_is) c.requires.links in
-    let takes = takes_rule w s t.db t.room t.kind t.closed t.first t.run k rule (λ less. absurd (grind (arith, c.in_ok-follow.ensures.limited less))) in
-    let more = reserved w t.db c.make_room.new.db t.room t.kind t.closed t.first t.run k c.make_room.ensures.history c.make_room.ensures.limit in
-    let done = admits es cs c.make_room.new.db c.admit.new.db t.room c.admit.new.room _ _ t.kind t.closed t.first t.run s more takes c.requires.block c.admit.ensures.history c.admit.ensures.waiting c.admit.ensures.limits in
-    let is : c.admit.new.db.history ≡ (intake_from h t.room.waiting s).history = c.admit.ensures.history ∙ ap (λ (l : List Slip). (intake_from l t.room.waiting s).history) c.make_room.ensures.history in
-    let b = brings h t.room.waiting s in
-    let n = c.len.result - c.len-from.result in
-    let len : length c.admit.new.db.history ≡ n + length h = omega (arith, c.len-from.ensures.len, c.len.ensures.len, ap length is, ap length b.1, length-append b.0 h) in
-    let marks : c.mark_admitted.new.marks.items ≡ (t.marks.items ++ kind_mark root) ++ replicate n mark.Admitted =
-    c.mark_admitted.ensures.items ∙ ap (λ l. l ++ replicate n mark.Admitted) (c.keep_root_kind.ensures.items ∙ ap (λ l. l ++ kind_mark root) c.reserve_admitted.ensures.marks) in
-    let entries = entries_after opening w h c.admit.new.db.history t.room.waiting waited t.kind root c.keep_root_kind.new.kept s b.0 t.marks.items c.mark_admitted.new.marks.items n k.parts.history k.parts.waiting k.kind b.1 is len
-    c.keep_root_kind.ensures.kept marks (c.in_ok-root_kind.ensures.added h c.len-from.ensures.len) c.in_ok-root_kind.ensures.first c.self.invariant.2 in
-    let all : c.finish-dropped.new.noted.items ≡ t.conflicts.items ++ c.finish-dropped.result.items =
-    c.finish-dropped.ensures.noted ∙ ap (λ l. l ++ c.finish-dropped.result.items) c.reserve_admitted.ensures.conflicts in
-    let dropped = c.finish-dropped.ensures.told ∙ c.admit.ensures.dropped ∙ ap (λ (l : List Slip). (intake_from l t.room.waiting s).dropped) c.make_room.ensures.history in
-    let conflicts = conflicts_after t.conflicts.items c.finish-dropped.result.items c.finish-dropped.new.noted.items _ all dropped in
-    let kind = c.keep_root_kind.ensures.kept ∙ c.in_ok-root_kind.ensures.kind c.make_room.new.db.history (c.len-from.ensures.len ∙ sym (ap length c.make_room.ensures.history)) in (
-      kept_as _ _ _ _ _ _ _ _ _ _ _ entries (conflicts ∙ clashes_same w h t.room.waiting s k.parts.history k.parts.waiting) kind done,
-      λ _. omega (arith, brings_most w s t.db t.room k.parts k.sound, ap length is, c.len-from.ensures.len, c.len.ensures.len, c.in_ok-follow.ensures.ok.0, c.mark_admitted.ensures.len, c.mark_admitted.ensures.capacity, c.keep_root_kind.ensures.len, c.keep_root_kind.ensures.capacity, c.in_ok-reserve_admitted.ensures.ok.0),
-      λ e. ap (λ l. has_kind_mark (reverse l)) marks ∙ ap has_kind_mark (marks_reverse t.marks.items root n) ∙ admission_kind t.kind root (reverse t.marks.items) n c.self.invariant.2 (sym c.keep_root_kind.ensures.kept ∙ e),
-      λ p. c.admit.ensures.held (c.requires.payloads (ap (λ (v : Told). v.payloads) (sym c.self.view_is) ∙ p)) (let h = c.self.invariant.3 p in record { history = rw c.make_room.ensures.held h.history; waiting = h.waiting }),
-      c.finish-dropped.ensures.conflicts,
+    let u = c.reserve_admission.ensures.unchanged in
+    let new = c.admit-from.new.self in
+    let a = c.admit-from.result in
+    let root = c.in_ok-root_kind.root_kind in
+    let old = told_with t.intake t.run (limits_told t.limits) t.size t.kind t.marks.items t.waited.items t.conflicts.items in
+    let w = world_told old in
+    let same = unchanged_world t.intake c.reserve_admission.new.intake u in
+    let rule = subst (λ (y : Slip). judge w y ≡ judge_limit w y) (sym (c.in_ok-slip.ensures ∙ ap slip c.deref.ensures)) (subst (λ (v : Told). judge (world_told v) (slip c.args.block.value) ≡ judge_limit (world_told v) (slip c.args.block.value)) (sym c.self.view_is) c.requires.links) in
+    let takes = takes_alike w t.intake x k.alike rule (λ less. absurd (grind (arith, c.in_ok-reserve_admission.ensures.limited less))) in
+    let block = subst IsBlock (sym (c.in_ok-slip.ensures ∙ ap slip c.deref.ensures)) c.args.block.value.parent_first in
+    let left = subst (λ (v : World). world_taken new ≡ unnoted (world_by v x verdict.Admitted)) same c.admit-from.ensures.world in
+    let said = subst (λ (v : World). answer_by v x verdict.Admitted ≡ Admitted a.from a.count a.dropped.items) same c.admit-from.ensures.said in
+    let told = told_by t.intake new x a.from a.count a.dropped.items said left in
+    let marks = c.mark_admitted.ensures.items ∙ ap (λ l. l ++ replicate a.count mark.Admitted) (c.keep_root_kind.ensures.items ∙ ap (λ l. l ++ kind_mark root) c.reserve_admission.ensures.marks) in
+    let noted = c.note_dropped.ensures ∙ ap (λ l. c.reserve_admission.new.conflicts.items ++ l) c.deref-2.ensures.value ∙ ap (λ l. l ++ a.dropped.items) c.reserve_admission.ensures.conflicts in
+    let now = told_now t.intake new t.run t.size (limits_told t.limits) t.kind root c.keep_root_kind.new.kept t.marks.items c.mark_admitted.new.marks.items t.waited.items t.conflicts.items c.note_dropped.new.conflicts.items x a.from a.count a.dropped.items
+    k.alike k.kind told (ap (λ (v : World). v.first) left) c.keep_root_kind.ensures.kept marks noted (c.in_ok-root_kind.ensures.added t.intake.forks.history c.len.ensures.len) c.in_ok-root_kind.ensures.first c.self.invariant.2 in
+    let kind = c.keep_root_kind.ensures.kept ∙ c.in_ok-root_kind.ensures.kind t.intake.forks.history c.len.ensures.len in
+    let rest = ap (λ (r : Room). descendants r.waiting x.id) u.room in
+    let done = admits old.entries old.conflicts t.intake new t.kind t.closed t.run t.size x k takes block left in (
+      kept_as _ _ _ _ new _ _ t.closed t.run t.size now.entries now.conflicts kind done,
+      λ _. omega (arith, rest, c.admit-from.ensures.most, c.in_ok-reserve_admission.ensures.ok.marks, c.mark_admitted.ensures.len, c.mark_admitted.ensures.capacity, c.keep_root_kind.ensures.len, c.keep_root_kind.ensures.capacity),
+      λ e. ap (λ l. has_kind_mark (reverse l)) marks ∙ ap has_kind_mark (marks_reverse t.marks.items root a.count) ∙ admission_kind t.kind root (reverse t.marks.items) a.count c.self.invariant.2 (sym c.keep_root_kind.ensures.kept ∙ e),
+      c.admit-from.ensures.held refl (unchanged_held t.intake c.reserve_admission.new.intake u c.self.invariant.3),
     )
 
 pub returns : goal.returns
 returns c =
     let t = c.self.inside in
-    let s = c.args.slip in
-    let root = c.in_ok-root_kind.root_kind in
-    let opening = Opened t.first t.run (limits_told t.limits) usual_size in
-    let waited = reverse t.waited.items in
-    let h = t.db.history in
-    let es = entries_by opening t.kind (reverse t.marks.items) h waited in
-    let cs = reverse t.conflicts.items in
-    let w = world_told (told es cs) in
+    let x = c.in_ok-slip.slip in
+    let is = c.in_ok-slip.ensures ∙ ap slip c.deref.ensures in
     let k = c.self.invariant.0 in
-    let rule = subst (λ (v : Told). judge (world_told v) s ≡ judge_limit (world_told v) s) (sym c.self.view_is) c.requires.links in
-    let takes = takes_rule w s t.db t.room t.kind t.closed t.first t.run k rule (λ less. absurd (grind (arith, c.in_ok-follow.ensures.limited less))) in
-    let is : c.admit.new.db.history ≡ (intake_from h t.room.waiting s).history = c.admit.ensures.history ∙ ap (λ (l : List Slip). (intake_from l t.room.waiting s).history) c.make_room.ensures.history in
-    let b = brings h t.room.waiting s in
-    let n = c.len.result - c.len-from.result in
-    let len : length c.admit.new.db.history ≡ n + length h = omega (arith, c.len-from.ensures.len, c.len.ensures.len, ap length is, ap length b.1, length-append b.0 h) in
-    let marks : c.mark_admitted.new.marks.items ≡ (t.marks.items ++ kind_mark root) ++ replicate n mark.Admitted =
-    c.mark_admitted.ensures.items ∙ ap (λ l. l ++ replicate n mark.Admitted) (c.keep_root_kind.ensures.items ∙ ap (λ l. l ++ kind_mark root) c.reserve_admitted.ensures.marks) in
-    let entries = entries_after opening w h c.admit.new.db.history t.room.waiting waited t.kind root c.keep_root_kind.new.kept s b.0 t.marks.items c.mark_admitted.new.marks.items n k.parts.history k.parts.waiting k.kind b.1 is len
-    c.keep_root_kind.ensures.kept marks (c.in_ok-root_kind.ensures.added h c.len-from.ensures.len) c.in_ok-root_kind.ensures.first c.self.invariant.2 in
-    let all : c.finish-dropped.new.noted.items ≡ t.conflicts.items ++ c.finish-dropped.result.items =
-    c.finish-dropped.ensures.noted ∙ ap (λ l. l ++ c.finish-dropped.result.items) c.reserve_admitted.ensures.conflicts in
-    let dropped = c.finish-dropped.ensures.told ∙ c.admit.ensures.dropped ∙ ap (λ (l : List Slip). (intake_from l t.room.waiting s).dropped) c.make_room.ensures.history in
-    let conflicts = conflicts_after t.conflicts.items c.finish-dropped.result.items c.finish-dropped.new.noted.items _ all dropped in
-    let told : Told = record { entries = es; conflicts = cs; payloads = t.payloads } in
-    let from : c.len-from.result ≡ length h = c.len-from.ensures.len in
-    let clashes = c.admit.ensures.dropped ∙ ap (λ (l : List Slip). (intake_from l t.room.waiting s).dropped) c.make_room.ensures.history in
-    let said = said_after w h t.room.waiting s c.len-from.result n c.admit.new.db.history c.finish-dropped.result.items _ k.parts.history k.parts.waiting is from len c.finish-dropped.ensures.told clashes in
-    changed s told _ _ verdict.Admitted _ c.self.view_is takes said refl entries (conflicts ∙ clashes_same w h t.room.waiting s k.parts.history k.parts.waiting) refl
+    let u = c.reserve_admission.ensures.unchanged in
+    let new = c.admit-from.new.self in
+    let a = c.admit-from.result in
+    let root = c.in_ok-root_kind.root_kind in
+    let old = told_with t.intake t.run (limits_told t.limits) t.size t.kind t.marks.items t.waited.items t.conflicts.items in
+    let w = world_told old in
+    let same = unchanged_world t.intake c.reserve_admission.new.intake u in
+    let rule = subst (λ (y : Slip). judge w y ≡ judge_limit w y) (sym is) (subst (λ (v : Told). judge (world_told v) (slip c.args.block.value) ≡ judge_limit (world_told v) (slip c.args.block.value)) (sym c.self.view_is) c.requires.links) in
+    let takes = takes_alike w t.intake x k.alike rule (λ less. absurd (grind (arith, c.in_ok-reserve_admission.ensures.limited less))) in
+    let block = subst IsBlock (sym is) c.args.block.value.parent_first in
+    let left = subst (λ (v : World). world_taken new ≡ unnoted (world_by v x verdict.Admitted)) same c.admit-from.ensures.world in
+    let said = subst (λ (v : World). answer_by v x verdict.Admitted ≡ Admitted a.from a.count a.dropped.items) same c.admit-from.ensures.said in
+    let told = told_by t.intake new x a.from a.count a.dropped.items said left in
+    let marks = c.mark_admitted.ensures.items ∙ ap (λ l. l ++ replicate a.count mark.Admitted) (c.keep_root_kind.ensures.items ∙ ap (λ l. l ++ kind_mark root) c.reserve_admission.ensures.marks) in
+    let noted = c.note_dropped.ensures ∙ ap (λ l. c.reserve_admission.new.conflicts.items ++ l) c.deref-2.ensures.value ∙ ap (λ l. l ++ a.dropped.items) c.reserve_admission.ensures.conflicts in
+    let now = told_now t.intake new t.run t.size (limits_told t.limits) t.kind root c.keep_root_kind.new.kept t.marks.items c.mark_admitted.new.marks.items t.waited.items t.conflicts.items c.note_dropped.new.conflicts.items x a.from a.count a.dropped.items
+    k.alike k.kind told (ap (λ (v : World). v.first) left) c.keep_root_kind.ensures.kept marks noted (c.in_ok-root_kind.ensures.added t.intake.forks.history c.len.ensures.len) c.in_ok-root_kind.ensures.first c.self.invariant.2 in
+    let after = told_with new t.run (limits_told t.limits) t.size c.keep_root_kind.new.kept c.mark_admitted.new.marks.items t.waited.items c.note_dropped.new.conflicts.items in
+    let said_as : Result Offered OfferFault = Ok (answer.Admitted a.from a.count a.dropped) in
+    subst (λ (y : Slip). IsDone (judge (world_told c.args.self.now) y) y c.args.self.now after said_as) is
+    (changed x old c.args.self.now after verdict.Admitted said_as c.self.view_is takes k.sound block (answer_alike w (world_taken t.intake) x verdict.Admitted k.alike ∙ said) refl now.entries now.conflicts)

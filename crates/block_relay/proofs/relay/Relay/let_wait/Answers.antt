@@ -1,42 +1,73 @@
-use Rattle.std.proofs.Common.{arith, ◌≡◌, [], ◌∷◌, ◌++◌, reverse, ap, sym, ◌∙◌, subst}
-use Rattle.std.specs.Option.{option_map}
-use Rattle.relay_model.specs.Chronicles.{Opened}
-use Rattle.relay_model.specs.Worlds.{usual_size}
-use Rattle.relay_model.specs.Offers.{judge}
+use Rattle.std.proofs.Common.{arith, ◌≡◌, [], ◌∷◌, ◌++◌, false, Ok, refl, reverse, ap, sym, ◌∙◌, subst}
+use Rattle.block_record.specs.declared.blocks.Slip.{Slip}
+use Rattle.block_record.specs.Slips.{slip}
+use Rattle.relay_model.specs.Chronicles.{Opened, Waited}
+use Rattle.relay_model.specs.Offers.{judge, world_by}
+use Rattle.relay_model.specs.Soundness.{IsBlock}
+use Rattle.relay_model.specs.Verdicts.{Verdict}
 use Rattle.relay_model.specs.Verdicts as verdict
+use Rattle.relay_model.specs.Worlds.{World}
+use Rattle.block_intake.specs.declared.answers.Offered.TheVariants as answer
+use Rattle.block_intake.specs.Intakes.{world_taken}
 use Rattle.block_relay.specs.declared.marks.Mark.TheVariants as mark
-use Rattle.block_relay.specs.Chronicle.{Told, entries_by, has_kind_mark, limits_told, world_told}
-use Rattle.block_relay.proofs.KeptFacts.{fits_room, lacks_room, marks_push, slips_push, waits}
+use Rattle.block_relay.specs.Chronicle.{Told, entries_by, has_kind_mark, limits_told, told_with, world_told}
+use Rattle.block_relay.specs.Done.{IsDone}
+use Rattle.block_relay.proofs.AdmissionFacts.{kept_as}
+use Rattle.block_relay.proofs.DoneFacts.{changed}
+use Rattle.block_relay.proofs.KeptFacts.{entries_on, judged_same, marks_push, slips_push, waits}
 use Rattle.block_relay.proofs.relay.Relay.let_wait.Goals as goal
 
-pub put-requires-clause-fits : goal.put-requires-clause-fits
-put-requires-clause-fits c =
-    let s = c.args.slip in
-    let rule = subst (λ (v : Told). judge (world_told v) s ≡ verdict.Waiting) (sym c.self.view_is) c.requires.waits in
-    fits_room _ s _ _ c.self.invariant.0.parts rule
+pub let_wait-requires-clause-own : goal.let_wait-requires-clause-own
+let_wait-requires-clause-own c = c.in_ok-slip.ensures ∙ ap slip c.deref.ensures
 
-pub put-requires-clause-fresh : goal.put-requires-clause-fresh
-put-requires-clause-fresh c =
-    let s = c.args.slip in
+pub let_wait-requires-clause-block : goal.let_wait-requires-clause-block
+let_wait-requires-clause-block c = subst IsBlock (sym (c.in_ok-slip.ensures ∙ ap slip c.deref.ensures)) c.args.block.value.parent_first
+
+pub let_wait-requires-clause-waits : goal.let_wait-requires-clause-waits
+let_wait-requires-clause-waits c =
+    let t = c.self.inside in
+    let s = slip c.args.block.value in
     let rule = subst (λ (v : Told). judge (world_told v) s ≡ verdict.Waiting) (sym c.self.view_is) c.requires.waits in
-    lacks_room _ s _ _ c.self.invariant.0.parts rule
+    let shown = subst (λ (v : Told). (world_told v).closed ≡ false) (sym c.self.view_is) c.requires.open in
+    subst (λ (x : Slip). judge (world_taken t.intake) x ≡ verdict.Waiting) (sym (c.in_ok-slip.ensures ∙ ap slip c.deref.ensures))
+    (sym (judged_same _ t.intake t.kind t.closed t.run t.size s c.self.invariant.0 shown) ∙ rule)
 
 pub invariant_of-self-2 : goal.invariant_of-self-2
 invariant_of-self-2 c =
     let t = c.self.inside in
-    let s = c.args.slip in
-    let b = option_map _ c.args.block in
-    let opening = Opened t.first t.run (limits_told t.limits) usual_size in
-    let es = entries_by opening t.kind (reverse t.marks.items) t.db.history (reverse t.waited.items) in
+    let s = slip c.args.block.value in
+    let is : c.in_ok-slip.slip ≡ s = c.in_ok-slip.ensures ∙ ap slip c.deref.ensures in
+    let new = c.let_wait.new.self in
+    let opening = Opened t.intake.first t.run (limits_told t.limits) t.size in
+    let es = entries_by opening t.kind (reverse t.marks.items) t.intake.forks.history (reverse t.waited.items) in
     let rule = subst (λ (v : Told). judge (world_told v) s ≡ verdict.Waiting) (sym c.self.view_is) c.requires.waits in
+    let left : world_taken new ≡ world_by (world_taken t.intake) s verdict.Waiting = c.in_ok-let_wait.ensures.ok ∙ ap (λ x. world_by (world_taken t.intake) x verdict.Waiting) is in
     let ms : reverse c.push_reserved-2.new.self.items ≡ mark.Waited ∷ reverse t.marks.items =
     ap reverse (c.push_reserved-2.ensures.items ∙ ap (λ l. l ++ mark.Waited ∷ []) c.reserve_waiting.ensures.marks) ∙ marks_push t.marks.items mark.Waited in
     let ws : reverse c.push_reserved.new.self.items ≡ s ∷ reverse t.waited.items =
-    ap reverse (c.push_reserved.ensures.items ∙ ap (λ l. l ++ c.in_ok-kept.kept ∷ []) c.reserve_waiting.ensures.waited) ∙ slips_push t.waited.items c.in_ok-kept.kept ∙ ap (λ x. x ∷ reverse t.waited.items) c.in_ok-kept.ensures in
-    let kept = waits es (reverse t.conflicts.items) t.db t.room t.kind t.closed t.first t.run s b c.self.invariant.0 rule c.requires.block in (
-      rw (ms, ws, c.in_ok-put.ensures.ok) kept,
+    ap reverse (c.push_reserved.ensures.items ∙ ap (λ l. l ++ c.in_ok-kept.kept ∷ []) c.reserve_waiting.ensures.waited) ∙ slips_push t.waited.items c.in_ok-kept.kept ∙ ap (λ x. x ∷ reverse t.waited.items) (c.in_ok-kept.ensures ∙ is) in
+    let kept = waits es (reverse t.conflicts.items) t.intake new t.kind t.closed t.run t.size s c.self.invariant.0 rule c.args.block.value.parent_first left in
+    let entries = entries_on new t.intake t.run (limits_told t.limits) t.size t.kind _ _ _ _ (ap (λ (w : World). w.first) left) (ap (λ (w : World). w.history) left) ms ws in (
+      kept_as _ (Waited s ∷ es) _ _ new t.kind t.kind t.closed t.run t.size entries refl refl kept,
       λ _. omega (arith, c.in_ok-reserve_waiting.ensures.ok.1, c.push_reserved-2.ensures.len, c.push_reserved-2.ensures.capacity),
       λ e. ap has_kind_mark ms ∙ c.self.invariant.2 e,
-      λ p. let h = c.self.invariant.3 p in record { history = h.history; waiting = c.in_ok-put.ensures.kept h.waiting (c.requires.payloads (ap (λ (v : Told). v.payloads) (sym c.self.view_is) ∙ p)) },
-      c.self.invariant.4,
+      c.let_wait.ensures.held refl c.self.invariant.3,
     )
+
+pub returns : goal.returns
+returns c =
+    let t = c.self.inside in
+    let s = slip c.args.block.value in
+    let is : c.in_ok-slip.slip ≡ s = c.in_ok-slip.ensures ∙ ap slip c.deref.ensures in
+    let new = c.let_wait.new.self in
+    let old = told_with t.intake t.run (limits_told t.limits) t.size t.kind t.marks.items t.waited.items t.conflicts.items in
+    let now = told_with new t.run (limits_told t.limits) t.size t.kind c.push_reserved-2.new.self.items c.push_reserved.new.self.items t.conflicts.items in
+    let rule = subst (λ (v : Told). judge (world_told v) s ≡ verdict.Waiting) (sym c.self.view_is) c.requires.waits in
+    let left : world_taken new ≡ world_by (world_taken t.intake) s verdict.Waiting = c.in_ok-let_wait.ensures.ok ∙ ap (λ x. world_by (world_taken t.intake) x verdict.Waiting) is in
+    let ms : reverse c.push_reserved-2.new.self.items ≡ mark.Waited ∷ reverse t.marks.items =
+    ap reverse (c.push_reserved-2.ensures.items ∙ ap (λ l. l ++ mark.Waited ∷ []) c.reserve_waiting.ensures.marks) ∙ marks_push t.marks.items mark.Waited in
+    let ws : reverse c.push_reserved.new.self.items ≡ s ∷ reverse t.waited.items =
+    ap reverse (c.push_reserved.ensures.items ∙ ap (λ l. l ++ c.in_ok-kept.kept ∷ []) c.reserve_waiting.ensures.waited) ∙ slips_push t.waited.items c.in_ok-kept.kept ∙ ap (λ x. x ∷ reverse t.waited.items) (c.in_ok-kept.ensures ∙ is) in
+    let entries = entries_on new t.intake t.run (limits_told t.limits) t.size t.kind _ _ _ _ (ap (λ (w : World). w.first) left) (ap (λ (w : World). w.history) left) ms ws in
+    subst (λ (v : Verdict). IsDone v s c.args.self.now now (Ok answer.Waiting)) c.requires.waits
+    (changed s old c.args.self.now now verdict.Waiting (Ok answer.Waiting) c.self.view_is rule c.self.invariant.0.sound c.args.block.value.parent_first refl refl entries refl)

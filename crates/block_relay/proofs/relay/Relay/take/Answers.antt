@@ -1,17 +1,23 @@
-use Rattle.std.proofs.Common.{◌≡◌, ap, sym, ◌∙◌, subst}
+use Rattle.std.proofs.Common.{◌≡◌, Err, ap, refl, sym, ◌∙◌, subst}
 use Rattle.block_record.specs.declared.blocks.Slip.{Slip}
-use Rattle.relay_model.specs.Offers.{conflict, judge}
-use Rattle.relay_model.specs.Verdicts.{Verdict}
+use Rattle.block_record.specs.Slips.{slip}
+use Rattle.relay_model.specs.Offers.{Answer, judge}
 use Rattle.relay_model.specs.Verdicts as verdict
-use Rattle.block_relay.specs.Chronicle.{world_told}
-use Rattle.block_relay.specs.Done.{IsDone}
-use Rattle.block_relay.specs.Judged.{verdict_of_judged}
+use Rattle.block_intake.specs.Answers.{IsAnswer}
+use Rattle.block_intake.specs.Intakes.{world_taken}
+use Rattle.block_intake.specs.Judged.{verdict_of_judged}
+use Rattle.block_intake.proofs.AlikeFacts.{answer_alike}
+use Rattle.block_relay.specs.Chronicle.{IsKept, Told, world_told}
+use Rattle.block_relay.proofs.DoneFacts.{stays_told}
 use Rattle.block_relay.proofs.relay.Relay.take.Goals as goal
 
-pub returns-in_ok-held-in-Clashes : goal.returns-in_ok-held-in-Clashes
-returns-in_ok-held-in-Clashes c =
+pub returns-in-WaitFull : goal.returns-in-WaitFull
+returns-in-WaitFull c =
+    let t = c.self.inside in
+    let s = slip c.args.block.value in
     let w = world_told c.args.self.now in
-    let rule : verdict.Conflict (conflict c.in-Clashes.kind c.in-Clashes.held.now c.args.slip) ≡ judge w c.args.slip = sym (ap (verdict_of_judged w c.args.slip) c.in-Clashes.is) ∙ c.judge.ensures.rule in
-    let held : verdict.Conflict (conflict c.in-Clashes.kind c.in_ok-held-in-Clashes.held c.args.slip) ≡ judge w c.args.slip =
-    ap (λ (h : Slip). verdict.Conflict (conflict c.in-Clashes.kind h c.args.slip)) c.in_ok-held-in-Clashes.ensures ∙ rule in
-    subst (λ (v : Verdict). IsDone v c.args.slip c.args.self.now c.refuse.new.self c.refuse.result) held c.refuse.ensures
+    let k : IsKept w t.intake t.kind t.closed t.run t.size = subst (λ (x : Told). IsKept (world_told x) t.intake t.kind t.closed t.run t.size) c.self.view_is c.self.invariant.0 in
+    let rule : verdict.WaitFull ≡ judge w s =
+    subst (λ (x : Slip). verdict.WaitFull ≡ judge w x) (ap slip c.deref.ensures) (sym (ap (verdict_of_judged w (slip c.deref.result.now)) c.in-WaitFull.is) ∙ c.judge.ensures.rule) in
+    let said = subst (λ (a : Answer). IsAnswer a (Err c.wait_full.result)) (sym (answer_alike w (world_taken t.intake) s verdict.WaitFull k.alike)) (c.wait_full.ensures s) in
+    stays_told s c.args.self.now verdict.WaitFull (judge w s) (Err c.wait_full.result) rule said refl refl

@@ -1,6 +1,6 @@
 use Rattle.std.proofs.Common.{◌≡◌, ◌+◌, ◌++◌, replicate, vec_len, vec_capacity}
 use Rattle.block_relay.specs.declared.marks.Mark.TheVariants as mark
-use Rattle.block_relay.proofs.relay.mark_admitted.Given as goal
+use Rattle.block_relay.proofs.marks.mark_admitted.Given as goal
 
 abbrev pub invariant-loop : goal.invariant-loop
 invariant-loop l = record {
