@@ -10,7 +10,7 @@ ghost use Rattle.chain_model.specs.declared.places.Mode.{Mode as ModeOf};
 ghost use Rattle.chain_model.specs.Places.{steps_to};
 ghost use Rattle.fork_db.specs.Claims.{IsLinkOf};
 ghost use Rattle.fork_db.specs.Batches.{HasOwnBlock, IsGiven, WasGiven, item_seen};
-ghost use Rattle.relay_look.specs.Answers.{FitsAt, HasBatchOf, IsLook, position_of};
+ghost use Rattle.relay_look.specs.Answers.{FitsAt, HasBatchOf, HasFewSteps, IsLook, position_of};
 ghost use Rattle.relay_model.specs.Looks.{looked};
 ghost use Rattle.relay_model.specs.Chronicles.{Kind as KindEntry, Opened, added};
 ghost use Rattle.relay_model.specs.Offers.{conflict, judge as judge_in, judge_limit, offered};
@@ -211,6 +211,7 @@ impl Relay {
         ensures said { IsLook
             (looked (world_told self.now) request.now (position_of position.now)) result }
         ensures given { HasBatchOf (world_told self.now).history request.now result }
+        ensures few { HasFewSteps result }
     {
         look(
             self.intake.history(),
