@@ -1,5 +1,2 @@
-pub mod PlaceFacts
+pub mod public
 pub mod SlipFacts
-pub mod ParentFacts
-pub mod WalkFacts
-pub mod PathFacts

@@ -13,7 +13,7 @@ use Rattle.chain_model.specs.Ancestry.{has_id}
 use Rattle.block_tree.specs.declared.slips.SlipById.{SlipById}
 use Rattle.block_tree.specs.Keys.{same_key}
 use Rattle.block_tree.specs.Places.{place_of, slip_at, history_of, HasIdsOnce}
-use Rattle.block_tree.proofs.PlaceFacts.{slip_at-reverse}
+use Rattle.block_tree.proofs.public.PlaceFacts.{slip_at-reverse}
 
 abbrev by_id : Slip → SlipById
 by_id s = record { slip = s }

@@ -5,11 +5,9 @@ ghost use Rattle.std.specs.Prelude.{◌≡◌, ◌<◌};
 use crate::BlockTree;
 use crate::follow::may_follow;
 use block_record::{Id, Slip};
-use link_rows::Steps;
+use link_rows::Uncounted;
 use std::alloc::{AllocError, Global};
-use std::marker::Brand;
 use std::process::Abort;
-use std::sync::ledger::{Blank, Ledger};
 use std::test::Fail;
 
 /// A block's number and id, and its parent's number and id.
@@ -99,33 +97,18 @@ const CASES: &[(Call, Option<usize>)] = &[
 #[test]
 fn paths_answer_as_by_hand(rt: HostRuntime) -> Result<(), Fail> {
     let tree = tree_of(&rt, rt.alloc(), FORK)?;
-    run_cases::<Brand>(&rt, &tree, Blank::new(1));
-    Ok(())
-}
-
-fn run_cases<L: Ledger>(rt: &impl Abort, tree: &BlockTree, blank: Blank)
-    requires name { blank.name ≡ L.name }
-    requires parts { blank.parts ≡ L.parts }
-    requires more { 0 < L.parts }
-{
-    let mut steps = Steps::<L>::new(blank);
     for (call, wanted) in CASES {
-        assert_eq!(rt; answer(rt, tree, *call, &mut steps), *wanted, "{call:?}");
+        assert_eq!(rt; answer(&rt, &tree, *call), *wanted);
     }
     for (a, b, wanted) in ON_PATH {
         assert!(rt; *a < tree.len());
         assert!(rt; *b < tree.len());
-        assert_eq!(rt; tree.on_path(*a, *b), *wanted, "{a} {b}");
-        assert_eq!(rt; tree.is_above(*a, *b, &mut steps), *wanted, "{a} {b}");
+        assert_eq!(rt; tree.on_path(*a, *b, &mut Uncounted), *wanted);
     }
+    Ok(())
 }
 
-fn answer<L: Ledger>(
-    rt: &impl Abort,
-    tree: &BlockTree,
-    call: Call,
-    steps: &mut Steps<L>,
-) -> Option<usize> {
+fn answer(rt: &impl Abort, tree: &BlockTree, call: Call) -> Option<usize> {
     match call {
         Depth { at } => {
             assert!(rt; at < tree.len());
@@ -134,15 +117,15 @@ fn answer<L: Ledger>(
         Meet { a, b } => {
             assert!(rt; a < tree.len());
             assert!(rt; b < tree.len());
-            Some(tree.meet(a, b, steps))
+            Some(tree.meet(a, b, &mut Uncounted))
         }
         Up { at, depth } => {
             assert!(rt; at < tree.len());
-            tree.up(at, depth, steps)
+            tree.up(at, depth, &mut Uncounted)
         }
         LastUpTo { at, limit } => {
             assert!(rt; at < tree.len());
-            tree.last_up_to(at, limit, steps)
+            tree.last_up_to(at, limit, &mut Uncounted)
         }
     }
 }

@@ -11,10 +11,9 @@ ghost use Rattle.block_tree.specs.Places.{place_of, slip_at, slip_of, parent_pla
 
 use crate::slips::{BLOCKS_MAX, Slips};
 use block_record::{Id, Slip};
-use link_rows::{LinkRows, Steps, digits};
+use link_rows::{LinkCount, LinkRows, digits};
 use std::alloc::{AllocError, Global};
-use std::marker::{Brand, Model};
-use std::sync::ledger::{Blank, Ledger};
+use std::marker::Model;
 
 /// A history by places. Contracts see the history with its newest block first, and for how many
 /// more blocks there is room. A place counts the older blocks.
@@ -130,45 +129,23 @@ impl BlockTree {
     }
 
     /// Whether the first block is on the path of the second.
-    pub fn is_above<L: Ledger>(&self, a: usize, b: usize, steps: &mut Steps<L>) -> bool
+    pub fn on_path<C: LinkCount>(&self, a: usize, b: usize, links: &mut C) -> bool
         requires a_range { a < length self.now.history }
         requires b_range { b < length self.now.history }
         ensures value { (x y : SlipOf) → slip_at self.now.history a ≡ Some x
             → slip_at self.now.history b ≡ Some y → result ≡ on_path self.now.history x y }
-        ensures cost { (d : ℕ) → length self.now.history < 2 ^ d → steps.new ≤ steps.old + d }
+        ensures cost { (d : ℕ) → length self.now.history < 2 ^ d
+            → C.count links.new ≤ C.count links.old + d }
     {
         let a_depth = self.rows.depth(a);
         if a_depth > self.rows.depth(b) {
             return false;
         }
-        self.rows.up(b, a_depth, steps) == a
-    }
-
-    /// Whether the first block is on the path of the second, with no count of links.
-    pub fn on_path(&self, a: usize, b: usize) -> bool
-        requires a_range { a < length self.now.history }
-        requires b_range { b < length self.now.history }
-        ensures { (x y : SlipOf) → slip_at self.now.history a ≡ Some x
-            → slip_at self.now.history b ≡ Some y → result ≡ on_path self.now.history x y }
-    {
-        self.is_above_by::<Brand>(a, b, Blank::new(1))
-    }
-
-    fn is_above_by<L: Ledger>(&self, a: usize, b: usize, blank: Blank) -> bool
-        requires a_range { a < length self.now.history }
-        requires b_range { b < length self.now.history }
-        requires name { blank.name ≡ L.name }
-        requires parts { blank.parts ≡ L.parts }
-        requires more { 0 < L.parts }
-        ensures { (x y : SlipOf) → slip_at self.now.history a ≡ Some x
-            → slip_at self.now.history b ≡ Some y → result ≡ on_path self.now.history x y }
-    {
-        let mut steps = Steps::<L>::new(blank);
-        self.is_above(a, b, &mut steps)
+        self.rows.up(b, a_depth, links) == a
     }
 
     /// The last block that is on both paths.
-    pub fn meet<L: Ledger>(&self, a: usize, b: usize, steps: &mut Steps<L>) -> usize
+    pub fn meet<C: LinkCount>(&self, a: usize, b: usize, links: &mut C) -> usize
         requires a_range { a < length self.now.history }
         requires b_range { b < length self.now.history }
         ensures value { (x y : SlipOf) → slip_at self.now.history a ≡ Some x
@@ -176,39 +153,36 @@ impl BlockTree {
             ≡ meeting (ancestry self.now.history x.id) (ancestry self.now.history y.id) }
         ensures range { result < length self.now.history }
         ensures cost { (d : ℕ) → length self.now.history < 2 ^ d
-            → steps.new ≤ steps.old + 1 + 3 * d }
+            → C.count links.new ≤ C.count links.old + 1 + 3 * d }
     {
-        self.rows.meet(a, b, steps)
+        self.rows.meet(a, b, links)
     }
 
     /// The block of the path at a depth, where the path is that deep.
-    pub fn up<L: Ledger>(&self, at: usize, depth: u64, steps: &mut Steps<L>) -> Option<usize>
+    pub fn up<C: LinkCount>(&self, at: usize, depth: u64, links: &mut C) -> Option<usize>
         requires range { at < length self.now.history }
         ensures value { (y : SlipOf) → slip_at self.now.history at ≡ Some y
             → slip_of self.now.history result
             ≡ slice_get (reverse (ancestry self.now.history y.id)) depth }
         ensures range { IfSome result (λ p. p < length self.now.history) }
-        ensures cost { (d : ℕ) → length self.now.history < 2 ^ d → steps.new ≤ steps.old + d }
+        ensures cost { (d : ℕ) → length self.now.history < 2 ^ d
+            → C.count links.new ≤ C.count links.old + d }
     {
         if depth > self.rows.depth(at) {
             return None;
         }
-        Some(self.rows.up(at, depth, steps))
+        Some(self.rows.up(at, depth, links))
     }
 
     /// The last block of the path with a number of at most the limit.
-    pub fn last_up_to<L: Ledger>(
-        &self,
-        at: usize,
-        limit: u64,
-        steps: &mut Steps<L>,
-    ) -> Option<usize>
+    pub fn last_up_to<C: LinkCount>(&self, at: usize, limit: u64, links: &mut C) -> Option<usize>
         requires range { at < length self.now.history }
         ensures value { (s : SlipOf) → slip_at self.now.history at ≡ Some s
             → slip_of self.now.history result
             ≡ find (λ x. nat_le x.num limit) (ancestry self.now.history s.id) }
         ensures range { IfSome result (λ p. p < length self.now.history) }
-        ensures cost { (d : ℕ) → length self.now.history < 2 ^ d → steps.new ≤ steps.old + d + 1 }
+        ensures cost { (d : ℕ) → length self.now.history < 2 ^ d
+            → C.count links.new ≤ C.count links.old + d + 1 }
     {
         let num = self.slips.slip(at).num;
         if num <= limit {
@@ -217,19 +191,19 @@ impl BlockTree {
         let count = rounds(self.rows.depth(at), num - limit);
         let mut from = at;
         for i in 0..count {
-            from = self.skip(from, limit, count - 1 - i, steps);
+            from = self.skip(from, limit, count - 1 - i, links);
         }
-        self.rows.link(from, 0, steps)
+        self.rows.link(from, 0, links)
     }
 
     /// The block at the distance 2^k, where its number is above the limit too, else the block itself.
-    fn skip<L: Ledger>(&self, from: usize, limit: u64, k: u32, steps: &mut Steps<L>) -> usize
+    fn skip<C: LinkCount>(&self, from: usize, limit: u64, k: u32, links: &mut C) -> usize
         requires range { from < length self.now.history }
         ensures value { IsSkip self.now.history
             (ancestors (parent_places self.now.history) from) (2 ^ k) limit from result }
-        ensures cost { steps.new ≡ steps.old + 1 }
+        ensures cost { C.count links.new ≡ C.count links.old + C.price }
     {
-        match self.rows.link(from, k, steps) {
+        match self.rows.link(from, k, links) {
             Some(far) if self.slip(far).num > limit => far,
             _ => from,
         }

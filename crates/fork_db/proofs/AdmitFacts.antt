@@ -14,9 +14,9 @@ use Rattle.chain_laws.proofs.public.Lines.{some_and}
 use Rattle.chain_laws.proofs.public.Roots.{has_tip}
 use Rattle.chain_laws.proofs.public.Meeting.{itself_on_path}
 use Rattle.block_tree.specs.Places.{slip_at}
-use Rattle.block_tree.proofs.PlaceFacts.{slip_at_within, slip_at_top}
-use Rattle.block_tree.proofs.ParentFacts.{found_at}
-use Rattle.block_tree.proofs.WalkFacts.{slip_there}
+use Rattle.block_tree.proofs.public.PlaceFacts.{slip_at_within, slip_at_top}
+use Rattle.block_tree.proofs.public.ParentFacts.{found_at}
+use Rattle.block_tree.proofs.public.WalkFacts.{slip_there}
 use Rattle.fork_db.specs.declared.heads.Rival.{Rival}
 use Rattle.fork_db.specs.Heads.{holds_final_tip, IsRivalOf, HoldsTipAt, IsRanked, rival_cmp}
 use Rattle.fork_db.proofs.RankFacts.{front_or_later, front, nothing_in, some_at, is_at, child_ranks, higher_ranks, rival_ranks, off_ranks, own_more, all_under, taken_ranks}

@@ -21,16 +21,12 @@ use Rattle.chain_laws.proofs.public.LineFacts.{line_is}
 use Rattle.chain_laws.proofs.public.Meeting.{LibFits, meet, lib_split, lib_passes, finals_closed, finals_line, target_line, target_has, whole_line, whole_has, suffix_passes, drop_suffix, has_first}
 use Rattle.chain_laws.proofs.public.Reach.{IsLine, Nothing, drop_line, ancestry_line, head_is_found, line_under}
 use Rattle.chain_laws.proofs.public.Walks.{is_final}
-use Rattle.block_tree.proofs.ParentFacts.{found_at}
-use Rattle.block_tree.proofs.PlaceFacts.{slip_at-reverse, place_slip}
-use Rattle.block_tree.proofs.WalkFacts.{slip_there}
+use Rattle.block_tree.proofs.public.ParentFacts.{found_at}
+use Rattle.block_tree.proofs.public.PlaceFacts.{slip_none, path_of_id}
+use Rattle.block_tree.proofs.public.WalkFacts.{slip_there}
 use Rattle.block_tree.specs.Places.{slip_at, slip_of, place_of, meeting}
 use Rattle.fork_db.specs.declared.batches.Batch.{Batch}
 use Rattle.fork_db.specs.Batches.{HasCounts, IsBatch}
-
--- there is no block past the last
-pub slip_none : (newest : List Slip) (at : ℕ) → length newest ≤ at → slip_at newest at ≡ None
-slip_none newest at le = slip_at-reverse newest at ∙ slice_get_past (reverse newest) at (rw (length-reverse newest) le)
 
 -- a path is no longer than the history
 pub ancestry_short : (newest : List Slip) (id : List ℕ) → length (ancestry newest id) ≤ length newest
@@ -63,17 +59,6 @@ path_short newest at n m lt deep le =
 
 pub path_missing : (newest : List Slip) (at : ℕ) → length newest ≤ at → 0 ≡ length (ancestry_of newest (slip_of newest (Some at)))
 path_missing newest at le = ap (λ o. length (ancestry_of newest o)) (sym (slip_none newest at le))
-
--- the path of a block that is found by its id
-no_line : (newest : List Slip) (id : List ℕ) → place_of newest id ≡ None → ancestry newest id ≡ []
-no_line [] id e = refl
-no_line (s ∷ older) id e = grind (arith, no_line older id)
-
-pub path_of_id : (newest : List Slip) (id : List ℕ) (o : Option ℕ) → o ≡ place_of newest id → ancestry_of newest (slip_of newest o) ≡ ancestry newest id
-path_of_id newest id None e = sym (no_line newest id (sym e))
-path_of_id newest id (Some p) e =
-    let r = place_slip newest id p (sym e) in
-    ap (ancestry_of newest) r.1 ∙ ap (ancestry newest) r.2
 
 -- the first that is left after a cut is the first that does not pass
 pub first_left : (p q : Slip → Bool) → ((s : Slip) → p s ≡ not (q s)) → (xs : List Slip) → first_of (drop_while p xs) ≡ find q xs

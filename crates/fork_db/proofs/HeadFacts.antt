@@ -16,9 +16,9 @@ use Rattle.chain_laws.proofs.public.LineFacts.{same_number}
 use Rattle.chain_laws.proofs.public.Meeting.{itself_on_path, all_in}
 use Rattle.chain_laws.proofs.public.Roots.{has_tip}
 use Rattle.block_tree.specs.Places.{slip_at, place_of}
-use Rattle.block_tree.proofs.PlaceFacts.{slip_at_within, slip_at_past, slip_at_top}
-use Rattle.block_tree.proofs.ParentFacts.{found_at}
-use Rattle.block_tree.proofs.PathFacts.{place_at}
+use Rattle.block_tree.proofs.public.PlaceFacts.{slip_at_within, slip_at_past, slip_at_top}
+use Rattle.block_tree.proofs.public.ParentFacts.{found_at}
+use Rattle.block_tree.proofs.public.PathFacts.{place_at}
 use Rattle.fork_db.specs.Heads.{IsBest, holds_final_tip}
 
 not_less : (a b place at : ℕ) → (b < a) ⊎ ((b ≡ a) × (place ≤ at)) → ltb a b ≡ false

@@ -8,7 +8,7 @@ use Rattle.block_record.specs.declared.blocks.Slip.{Slip}
 use Rattle.block_record.specs.declared.blocks.Block.{Block}
 use Rattle.block_record.specs.Slips.{slip}
 use Rattle.block_tree.specs.Places.{slip_at}
-use Rattle.block_tree.proofs.PlaceFacts.{slip_at_past, slip_at_top}
+use Rattle.block_tree.proofs.public.PlaceFacts.{slip_at_past, slip_at_top}
 use Rattle.fork_db.specs.Forks.{HoldsOwn}
 
 length_push : (xs : List (Option Block)) (x : Option Block) → length (xs ++ x ∷ []) ≡ length xs + 1

@@ -11,7 +11,7 @@ use Rattle.block_record.specs.declared.blocks.Block.{Block}
 use Rattle.block_record.specs.Slips.{slip}
 use Rattle.chain_model.specs.Ancestry.{IsHistory}
 use Rattle.block_tree.specs.Places.{place_of, slip_at}
-use Rattle.block_tree.proofs.PathFacts.{place_at}
+use Rattle.block_tree.proofs.public.PathFacts.{place_at}
 use Rattle.fork_db.specs.declared.chunks.StepItem.{StepItem}
 use Rattle.fork_db.specs.Batches.{HoldsWhatIs}
 use Rattle.fork_db.specs.Forks.{HoldsOwn}

@@ -1,4 +1,4 @@
-pub mod ClaimFacts
+pub mod public
 pub mod VerdictFacts
 pub mod HeldFacts
 pub mod HeadFacts

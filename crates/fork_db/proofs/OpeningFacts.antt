@@ -7,9 +7,9 @@ use Rattle.chain_model.specs.Ancestry.{ancestry}
 use Rattle.chain_model.specs.Finality.{ancestry_of, final_tip}
 use Rattle.chain_model.specs.Places.{opening}
 use Rattle.chain_model.specs.Steps.{ref_of}
-use Rattle.block_tree.proofs.WalkFacts.{slip_there}
+use Rattle.block_tree.proofs.public.WalkFacts.{slip_there}
 use Rattle.block_tree.specs.Places.{slip_at, slip_of}
-use Rattle.fork_db.proofs.BatchFacts.{slip_none}
+use Rattle.block_tree.proofs.public.PlaceFacts.{slip_none}
 
 same_bound : (a limit start : ℕ) → start ≡ limit + 1 → nat_le a limit ≡ nat_lt a start
 same_bound a limit start e = grind (arith, e)

@@ -12,7 +12,7 @@ use Rattle.chain_model.specs.declared.places.Step.{Step}
 use Rattle.chain_model.specs.declared.places.Step.TheVariants as step
 use Rattle.chain_model.specs.Steps.{BlockStep, block_step, parent_of, place_after, ref_of}
 use Rattle.chain_model.specs.Places.{PlacedStep, place_along, placed}
-use Rattle.link_rows.proofs.ListFacts.{slice_get_drop}
+use Rattle.link_rows.proofs.public.ListFacts.{slice_get_drop}
 use Rattle.fork_db.specs.declared.batches.Batch.{Batch}
 use Rattle.fork_db.specs.Batches.{step_total}
 use Rattle.fork_db.proofs.StepFacts.{Runs, slice_get-left, slice_get-right, steps_length}

@@ -15,8 +15,8 @@ use Rattle.chain_laws.proofs.public.Lines.{IsHistory-rest, some_and}
 use Rattle.chain_laws.proofs.public.Roots.{has_tip}
 use Rattle.chain_laws.proofs.public.Meeting.{itself_on_path}
 use Rattle.block_tree.specs.Places.{slip_at}
-use Rattle.block_tree.proofs.PlaceFacts.{slip_at_within, slip_at_past, slip_at_top}
-use Rattle.block_tree.proofs.ParentFacts.{found_at}
+use Rattle.block_tree.proofs.public.PlaceFacts.{slip_at_within, slip_at_past, slip_at_top}
+use Rattle.block_tree.proofs.public.ParentFacts.{found_at}
 use Rattle.fork_db.specs.declared.heads.Rival.{Rival}
 use Rattle.fork_db.specs.Heads.{IsBest, holds_final_tip, IsRivalOf, HoldsTipAt, IsUnderRival, RanksAll, IsRanked, rival_cmp}
 use Rattle.fork_db.proofs.HeadFacts.{best_greatest, best_new, best_kept, new_or_old, on_path_past, on_path_through, passes_through, passed_before, tip_stays, passes_still, under_num}

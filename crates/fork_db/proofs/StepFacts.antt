@@ -20,8 +20,8 @@ use Rattle.chain_laws.proofs.public.Meeting.{target_line}
 use Rattle.chain_laws.proofs.public.Reach.{IsLine, Nothing, From}
 use Rattle.chain_laws.proofs.public.LineFacts.{line_is}
 use Rattle.chain_laws.proofs.public.Walks.{is_final}
-use Rattle.block_tree.proofs.ParentFacts.{found_at}
-use Rattle.block_tree.proofs.PlaceFacts.{slip_at_past, slip_at_within}
+use Rattle.block_tree.proofs.public.ParentFacts.{found_at}
+use Rattle.block_tree.proofs.public.PlaceFacts.{slip_at_past, slip_at_within}
 use Rattle.block_tree.specs.Places.{slip_at, slip_of}
 use Rattle.fork_db.specs.declared.batches.Batch.{Batch}
 use Rattle.fork_db.specs.Batches.{IsGiven, added_kind, step_total}

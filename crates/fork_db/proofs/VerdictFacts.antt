@@ -4,7 +4,7 @@ use Rattle.std.proofs.lemmas.Option.{same_Some}
 use Rattle.block_record.specs.declared.blocks.Slip.{Slip}
 use Rattle.chain_model.specs.Ancestry.{find_id, has_id, IsHistory}
 use Rattle.block_tree.specs.Places.{place_of, slip_at}
-use Rattle.block_tree.proofs.PlaceFacts.{place_slip, is_held, find_none}
+use Rattle.block_tree.proofs.public.PlaceFacts.{place_slip, is_held, find_none}
 use Rattle.fork_db.specs.Verdicts.{verdict_of, fits, claim_verdict, parent_verdict, agrees_next}
 use Rattle.fork_db.specs.declared.db.Verdict.{Verdict}
 use Rattle.fork_db.specs.declared.db.Verdict.TheVariants as verdict

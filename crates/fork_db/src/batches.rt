@@ -9,12 +9,12 @@ ghost use Rattle.chain_laws.specs.Standing.{first_of};
 ghost use Rattle.block_tree.specs.Places.{slip_of};
 ghost use Rattle.fork_db.specs.Batches.{IsBatch, IsGiven, step_total};
 
+use crate::db::ForkDb;
 use block_record::BlockRef;
 use block_tree::{BLOCKS_MAX, BlockTree};
 use chain_model::{Mode, Place};
-use link_rows::Steps;
+use link_rows::LinkCount;
 use std::alloc::AllocError;
-use std::sync::ledger::Ledger;
 
 /// The steps from a place to a target, by their counts.
 #[derive(Drop)]
@@ -61,9 +61,69 @@ pub struct Lengths {
     finals: u64,
 }
 
+impl ForkDb {
+    /// The steps from a place that fits to the target, by their counts. It reads at most 2 + 4 d
+    /// links, d the number of binary digits of the history's length, and copies the place.
+    pub fn batch<C: LinkCount>(
+        &self,
+        place: &Place,
+        mode: Mode,
+        stop: Option<u64>,
+        links: &mut C,
+    ) -> Result<Batch, AllocError>
+        requires fits { PlaceFits self.now.history place.now.end place.now.lib }
+        requires ahead { IsAhead stop place.now.end }
+        ensures batch { IfOk result (λ b. IsBatch self.now.history mode stop b) }
+        ensures given { IfOk result
+            (λ b. IsGiven self.now.history self.now.history mode stop b) }
+        ensures place { IfOk result (λ b. b.place ≡ place.now) }
+        ensures cost { (d : ℕ) → length self.now.history < 2 ^ d
+            → C.count links.new ≤ C.count links.old + 2 + 4 * d }
+    {
+        let place = copy_place(place)?;
+        Ok(self.batch_from(place, mode, stop, links))
+    }
+
+    /// The same from a place of the caller's own, which the batch keeps. It takes no memory.
+    pub fn batch_from<C: LinkCount>(
+        &self,
+        place: Place,
+        mode: Mode,
+        stop: Option<u64>,
+        links: &mut C,
+    ) -> Batch
+        requires fits { PlaceFits self.now.history place.end place.lib }
+        requires ahead { IsAhead stop place.end }
+        ensures batch { IsBatch self.now.history mode stop result }
+        ensures given { IsGiven self.now.history self.now.history mode stop result }
+        ensures place { result.place ≡ place }
+        ensures cost { (d : ℕ) → length self.now.history < 2 ^ d
+            → C.count links.new ≤ C.count links.old + 2 + 4 * d }
+    {
+        let tip = self.final_tip();
+        let head = self.head();
+        let seen = self.tree.len() as u64;
+        let target = target_of(&self.tree, tip, head, mode, stop, links);
+        let paths = path_lengths(&self.tree, tip, &place, target, links);
+        let counts = counts_of(paths);
+        Batch {
+            seen,
+            place,
+            target,
+            end: paths.end,
+            held: paths.held,
+            known: paths.known,
+            undos: counts.undos,
+            finals: counts.finals,
+            newfinals: counts.newfinals,
+            news: counts.news,
+        }
+    }
+}
+
 /// How many blocks the path of a block has. None has no path, and neither has a place that is not
 /// in the history.
-pub(crate) fn path_len(tree: &BlockTree, at: Option<usize>) -> u64
+fn path_len(tree: &BlockTree, at: Option<usize>) -> u64
     ensures len { result ≡ length (ancestry_of tree.now.history (slip_of tree.now.history at)) }
     ensures short { result ≤ length tree.now.history }
     ensures small { length tree.now.history ≤ BLOCKS_MAX }
@@ -77,7 +137,7 @@ pub(crate) fn path_len(tree: &BlockTree, at: Option<usize>) -> u64
 }
 
 /// The place of the block at a reference.
-pub(crate) fn find_ref(tree: &BlockTree, block: &Option<BlockRef>) -> Option<usize>
+fn find_ref(tree: &BlockTree, block: &Option<BlockRef>) -> Option<usize>
     ensures { ancestry_of tree.now.history (slip_of tree.now.history result)
         ≡ ancestry_at tree.now.history block.now }
 {
@@ -88,59 +148,62 @@ pub(crate) fn find_ref(tree: &BlockTree, block: &Option<BlockRef>) -> Option<usi
 }
 
 /// The last block of a path with a number of at most the stop, where there is a stop.
-fn cut_at<L: Ledger>(
+fn cut_at<C: LinkCount>(
     tree: &BlockTree,
     last: Option<usize>,
     stop: Option<u64>,
-    steps: &mut Steps<L>,
+    links: &mut C,
 ) -> Option<usize>
     ensures value { slip_of tree.now.history result
         ≡ first_of (cut stop (ancestry_of tree.now.history (slip_of tree.now.history last))) }
-    ensures cost { (d : ℕ) → length tree.now.history < 2 ^ d → steps.new ≤ steps.old + d + 1 }
+    ensures cost { (d : ℕ) → length tree.now.history < 2 ^ d
+        → C.count links.new ≤ C.count links.old + d + 1 }
 {
     let len = tree.len();
     match (last, stop) {
-        (Some(at), Some(stop)) if at < len => tree.last_up_to(at, stop, steps),
+        (Some(at), Some(stop)) if at < len => tree.last_up_to(at, stop, links),
         _ => last,
     }
 }
 
 /// The last block of the target.
-fn target_of<L: Ledger>(
+fn target_of<C: LinkCount>(
     tree: &BlockTree,
     tip: Option<usize>,
     head: Option<usize>,
     mode: Mode,
     stop: Option<u64>,
-    steps: &mut Steps<L>,
+    links: &mut C,
 ) -> Option<usize>
     requires tip { slip_of tree.now.history tip ≡ final_tip tree.now.history }
     requires head { slip_of tree.now.history head ≡ head_of tree.now.history }
     ensures value { slip_of tree.now.history result
         ≡ first_of (target tree.now.history mode stop) }
-    ensures cost { (d : ℕ) → length tree.now.history < 2 ^ d → steps.new ≤ steps.old + d + 1 }
+    ensures cost { (d : ℕ) → length tree.now.history < 2 ^ d
+        → C.count links.new ≤ C.count links.old + d + 1 }
 {
     match mode {
-        Mode::Live => cut_at(tree, head, stop, steps),
-        Mode::Final => cut_at(tree, tip, stop, steps),
+        Mode::Live => cut_at(tree, head, stop, links),
+        Mode::Final => cut_at(tree, tip, stop, links),
     }
 }
 
 /// How many blocks are on two paths.
-fn common_len<L: Ledger>(
+fn common_len<C: LinkCount>(
     tree: &BlockTree,
     a: Option<usize>,
     b: Option<usize>,
-    steps: &mut Steps<L>,
+    links: &mut C,
 ) -> u64
     ensures len { result ≡ length (kept
         (ancestry_of tree.now.history (slip_of tree.now.history a))
         (ancestry_of tree.now.history (slip_of tree.now.history b))) }
-    ensures cost { (d : ℕ) → length tree.now.history < 2 ^ d → steps.new ≤ steps.old + 1 + 3 * d }
+    ensures cost { (d : ℕ) → length tree.now.history < 2 ^ d
+        → C.count links.new ≤ C.count links.old + 1 + 3 * d }
 {
     match (a, b) {
         (Some(a), Some(b)) if a < tree.len() && b < tree.len() => {
-            path_len(tree, Some(tree.meet(a, b, steps)))
+            path_len(tree, Some(tree.meet(a, b, links)))
         }
         _ => 0,
     }
@@ -167,12 +230,12 @@ fn counts_of(paths: Lengths) -> Counts
 }
 
 /// The lengths of the paths between which a client moves.
-fn path_lengths<L: Ledger>(
+fn path_lengths<C: LinkCount>(
     tree: &BlockTree,
     tip: Option<usize>,
     place: &Place,
     target: Option<usize>,
-    steps: &mut Steps<L>,
+    links: &mut C,
 ) -> Lengths
     ensures end { slip_of tree.now.history result.end
         ≡ first_of (ancestry_at tree.now.history place.now.end) }
@@ -184,7 +247,8 @@ fn path_lengths<L: Ledger>(
     ensures known { result.known ≡ length (ancestry_at tree.now.history place.now.lib) }
     ensures finals { result.finals ≡ min result.wanted
         (length (ancestry_of tree.now.history (slip_of tree.now.history tip))) }
-    ensures cost { (d : ℕ) → length tree.now.history < 2 ^ d → steps.new ≤ steps.old + 1 + 3 * d }
+    ensures cost { (d : ℕ) → length tree.now.history < 2 ^ d
+        → C.count links.new ≤ C.count links.old + 1 + 3 * d }
 {
     let end = find_ref(tree, &place.end);
     let lib = find_ref(tree, &place.lib);
@@ -194,57 +258,18 @@ fn path_lengths<L: Ledger>(
         end,
         held: path_len(tree, end),
         wanted,
-        common: common_len(tree, end, target, steps),
+        common: common_len(tree, end, target, links),
         known: path_len(tree, lib),
         finals: wanted.min(final_len),
     }
 }
 
 /// A copy of a place.
-pub(crate) fn copy_place(place: &Place) -> Result<Place, AllocError>
+fn copy_place(place: &Place) -> Result<Place, AllocError>
     ensures { IfOk result (λ p. p ≡ place.now) }
 {
     let place = place.clone()?;
     Ok(place)
-}
-
-/// The steps from a place to the target, by their counts. It takes no memory.
-pub fn make_batch<L: Ledger>(
-    tree: &BlockTree,
-    tip: Option<usize>,
-    head: Option<usize>,
-    place: Place,
-    mode: Mode,
-    stop: Option<u64>,
-    steps: &mut Steps<L>,
-) -> Batch
-    requires tip { slip_of tree.now.history tip ≡ final_tip tree.now.history }
-    requires head { slip_of tree.now.history head ≡ head_of tree.now.history }
-    requires fits { PlaceFits tree.now.history place.end place.lib }
-    requires ahead { IsAhead stop place.end }
-    ensures batch { IsBatch tree.now.history mode stop result }
-    ensures place { result.place ≡ place }
-    ensures given { IsGiven tree.now.history tree.now.history mode stop result }
-    ensures most { step_total result ≤ 2 * result.seen }
-    ensures small { result.seen ≤ BLOCKS_MAX }
-    ensures cost { (d : ℕ) → length tree.now.history < 2 ^ d → steps.new ≤ steps.old + 2 + 4 * d }
-{
-    let seen = tree.len() as u64;
-    let target = target_of(tree, tip, head, mode, stop, steps);
-    let paths = path_lengths(tree, tip, &place, target, steps);
-    let counts = counts_of(paths);
-    Batch {
-        seen,
-        place,
-        target,
-        end: paths.end,
-        held: paths.held,
-        known: paths.known,
-        undos: counts.undos,
-        finals: counts.finals,
-        newfinals: counts.newfinals,
-        news: counts.news,
-    }
 }
 
 /// How many steps a batch has.

@@ -5,24 +5,21 @@ ghost use Rattle.std.specs.List.{slice_get, AllByRecursion};
 ghost use Rattle.std.specs.Option.{option_map, option_or};
 ghost use Rattle.block_record.specs.declared.blocks.Slip.{Slip as SlipOf};
 ghost use Rattle.chain_model.specs.declared.places.Mode.{Mode as ModeOf};
-ghost use Rattle.chain_model.specs.Ancestry.{IsHistory, ancestry};
+ghost use Rattle.chain_model.specs.Ancestry.{IsHistory};
 ghost use Rattle.chain_model.specs.Finality.{ancestry_of};
 ghost use Rattle.chain_model.specs.Steps.{parent_of, ref_of, steps_of};
-ghost use Rattle.chain_model.specs.Places.{place_along, steps_to};
+ghost use Rattle.chain_model.specs.Places.{place_along, place_to, steps_to};
 ghost use Rattle.block_tree.specs.Places.{slip_at, slip_of};
-ghost use Rattle.fork_db.specs.Forks.{HoldsOwn};
 ghost use Rattle.fork_db.specs.Batches.{HasOwnBlock, HoldsWhatIs, IsGiven, WasGiven, added_kind, item_seen, step_seen, step_total};
 
 use crate::batches::{Batch, step_count};
-use crate::held::HeldBlocks;
+use crate::db::ForkDb;
 use block_record::{Block, BlockRef, Slip, copy_slip};
 use block_tree::BlockTree;
 use chain_model::{Place, Step};
-use link_rows::Steps;
+use link_rows::Uncounted;
 use std::alloc::AllocError;
-use std::marker::Brand;
 use std::sync::Arc;
-use std::sync::ledger::{Blank, Ledger};
 
 /// A step of a batch, with its block by the block's place in the history.
 #[derive(Clone, Copy)]
@@ -41,29 +38,143 @@ pub struct StepItem {
     pub place: Place,
 }
 
-/// The block of a path at a depth, where the path is that deep, with no count of links.
-pub(crate) fn ancestor_at(tree: &BlockTree, at: usize, depth: u64) -> Option<usize>
-    requires range { at < length tree.now.history }
-    ensures value { (y : SlipOf) → slip_at tree.now.history at ≡ Some y
-        → slip_of tree.now.history result
-        ≡ slice_get (reverse (ancestry tree.now.history y.id)) depth }
-    ensures range { IfSome result (λ p. p < length tree.now.history) }
-{
-    ancestor_by::<Brand>(tree, at, depth, Blank::new(1))
-}
+impl ForkDb {
+    /// How many steps a batch has.
+    pub fn step_count(&self, batch: &Batch) -> u64
+        requires { WasGiven self.now.history batch.now }
+        ensures { (older : List SlipOf) (mode : ModeOf) (stop : Option ℕ)
+            → IsGiven self.now.history older mode stop batch.now
+            → result ≡ length (steps_of older batch.now.place mode stop) }
+    {
+        count_in(&self.tree, batch)
+    }
 
-fn ancestor_by<L: Ledger>(tree: &BlockTree, at: usize, depth: u64, blank: Blank) -> Option<usize>
-    requires range { at < length tree.now.history }
-    requires name { blank.name ≡ L.name }
-    requires parts { blank.parts ≡ L.parts }
-    requires more { 0 < L.parts }
-    ensures value { (y : SlipOf) → slip_at tree.now.history at ≡ Some y
-        → slip_of tree.now.history result
-        ≡ slice_get (reverse (ancestry tree.now.history y.id)) depth }
-    ensures range { IfSome result (λ p. p < length tree.now.history) }
-{
-    let mut steps = Steps::<L>::new(blank);
-    tree.up(at, depth, &mut steps)
+    /// The step at an index of a batch, with its block's place. None past the last step. The history
+    /// may have grown since the batch was given. It takes no memory.
+    pub fn step_at(&self, batch: &Batch, index: u64) -> Option<StepAt>
+        requires { WasGiven self.now.history batch.now }
+        ensures value { (older : List SlipOf) (mode : ModeOf) (stop : Option ℕ)
+            → IsGiven self.now.history older mode stop batch.now
+            → option_and_then (step_seen self.now.history) result
+            ≡ slice_get (steps_of older batch.now.place mode stop) index }
+        ensures range { IfSome result (λ x. x.at < length self.now.history) }
+    {
+        if index < count_in(&self.tree, batch) {
+            return Some(step_in(&self.tree, batch, index));
+        }
+        None
+    }
+
+    /// The place after the first `count` steps of a batch, and after all of them where there are
+    /// fewer.
+    pub fn place_after(&self, batch: &Batch, count: u64) -> Result<Place, AllocError>
+        requires { WasGiven self.now.history batch.now }
+        ensures { (older : List SlipOf) (mode : ModeOf) (stop : Option ℕ)
+            → IsGiven self.now.history older mode stop batch.now
+            → IfOk result (λ p. p ≡ place_along batch.now.place
+            (take count (steps_of older batch.now.place mode stop))) }
+    {
+        let taken = count.min(count_in(&self.tree, batch));
+        let end = or_copy(new_end(&self.tree, batch, taken)?, &batch.place.end)?;
+        let lib = or_copy(new_lib(&self.tree, batch, taken)?, &batch.place.lib)?;
+        Ok(Place { end, lib })
+    }
+
+    /// The place after all steps of a batch, which is used up: what stays of its place is moved.
+    pub fn place_after_all(&self, batch: Batch) -> Result<Place, AllocError>
+        requires { WasGiven self.now.history batch }
+        ensures { (older : List SlipOf) (mode : ModeOf) (stop : Option ℕ)
+            → IsGiven self.now.history older mode stop batch
+            → IfOk result (λ p. p ≡ place_to older batch.place mode stop) }
+    {
+        let total = count_in(&self.tree, &batch);
+        let end = new_end(&self.tree, &batch, total)?;
+        let lib = new_lib(&self.tree, &batch, total)?;
+        Ok(Place {
+            end: end.or(batch.place.end),
+            lib: lib.or(batch.place.lib),
+        })
+    }
+
+    /// Appends the steps of a batch from an index, at most `max`, each with its slip, its block where
+    /// it is still held, and the place after it: none where the index is at or past their end. The
+    /// history may have grown since the batch was given. At an error `out` is as it was.
+    pub fn chunk(
+        &self,
+        batch: &Batch,
+        from: u64,
+        max: u32,
+        out: &mut Vec<StepItem>,
+    ) -> Result<(), AllocError>
+        requires { WasGiven self.now.history batch.now }
+        ensures ok { (older : List SlipOf) (mode : ModeOf) (stop : Option ℕ)
+            → IsGiven self.now.history older mode stop batch.now
+            → OnOk result (map item_seen out.new.items ≡ map item_seen out.old.items
+            ++ take max (drop from (steps_to older batch.now.place mode stop))) }
+        ensures holds { OnOk result (AllByRecursion (HoldsWhatIs self.now.history self.now.held)
+            (drop (length out.old.items) out.new.items)) }
+        ensures own { OnOk result (AllByRecursion HasOwnBlock
+            (drop (length out.old.items) out.new.items)) }
+        ensures err { OnErr result (out.new.items ≡ out.old.items) }
+    {
+        let kept = out.len();
+        let end = count_in(&self.tree, batch).min(from.saturating_add(u64::from(max)));
+        let pushed = self.push_range(batch, from, end, out);
+        if pushed.is_err() {
+            out.truncate(kept);
+        }
+        pushed
+    }
+
+    /// The step at an index that is below the number of the steps, with its block and its place.
+    fn item_at(&self, batch: &Batch, index: u64) -> Result<StepItem, AllocError>
+        requires given { WasGiven self.now.history batch.now }
+        requires range { index < step_total batch.now }
+        requires small { index + 1 < 2 ^ 64 }
+        ensures step { (older : List SlipOf) (mode : ModeOf) (stop : Option ℕ)
+            → IsGiven self.now.history older mode stop batch.now
+            → IfOk result (λ x. slice_get (steps_to older batch.now.place mode stop) index
+            ≡ Some (item_seen x)) }
+        ensures holds { IfOk result (HoldsWhatIs self.now.history self.now.held) }
+        ensures own { IfOk result HasOwnBlock }
+    {
+        let found = step_in(&self.tree, batch, index);
+        let slip = copy_slip(self.tree.slip(found.at))?;
+        let place = self.place_after(batch, index + 1)?;
+        let shared = self.held.share(found.at)?;
+        Ok(StepItem {
+            step: found.step,
+            slip,
+            held: shared,
+            place,
+        })
+    }
+
+    /// Appends the steps from one index up to another.
+    fn push_range(
+        &self,
+        batch: &Batch,
+        from: u64,
+        end: u64,
+        out: &mut Vec<StepItem>,
+    ) -> Result<(), AllocError>
+        requires given { WasGiven self.now.history batch.now }
+        requires range { end ≤ step_total batch.now }
+        ensures ok { (older : List SlipOf) (mode : ModeOf) (stop : Option ℕ)
+            → IsGiven self.now.history older mode stop batch.now
+            → OnOk result (map item_seen out.new.items ≡ map item_seen out.old.items
+            ++ take (end - from) (drop from (steps_to older batch.now.place mode stop))) }
+        ensures holds { AllByRecursion (HoldsWhatIs self.now.history self.now.held)
+            (drop (length out.old.items) out.new.items) }
+        ensures own { AllByRecursion HasOwnBlock (drop (length out.old.items) out.new.items) }
+        ensures kept { take (length out.old.items) out.new.items ≡ out.old.items }
+    {
+        for index in from..end {
+            let item = self.item_at(batch, index)?;
+            out.push(item)?;
+        }
+        Ok(())
+    }
 }
 
 /// The block at a depth of the path of a block.
@@ -74,7 +185,7 @@ fn block_at(tree: &BlockTree, last: Option<usize>, depth: u64) -> usize
     ensures range { result < length tree.now.history }
 {
     let at = last.unwrap();
-    ancestor_at(tree, at, depth).unwrap()
+    tree.up(at, depth, &mut Uncounted).unwrap()
 }
 
 /// The step at an index that is below the number of the steps.
@@ -117,7 +228,7 @@ fn added_step(is_final: bool) -> Step
 }
 
 /// How many steps a batch of the tree has: a history is short, so their number fits.
-pub(crate) fn count_in(tree: &BlockTree, batch: &Batch) -> u64
+fn count_in(tree: &BlockTree, batch: &Batch) -> u64
     requires given { WasGiven tree.now.history batch.now }
     ensures total { result ≡ step_total batch.now }
     ensures sound { IsHistory tree.now.history }
@@ -125,21 +236,6 @@ pub(crate) fn count_in(tree: &BlockTree, batch: &Batch) -> u64
     let len = tree.len() as u64;
     prove!(batch.seen <= len);
     step_count(batch)
-}
-
-/// The step at an index of a batch. None past the last step. It takes no memory.
-pub fn step_at(tree: &BlockTree, batch: &Batch, index: u64) -> Option<StepAt>
-    requires given { WasGiven tree.now.history batch.now }
-    ensures value { (older : List SlipOf) (mode : ModeOf) (stop : Option ℕ)
-        → IsGiven tree.now.history older mode stop batch.now
-        → option_and_then (step_seen tree.now.history) result
-        ≡ slice_get (steps_of older batch.now.place mode stop) index }
-    ensures range { IfSome result (λ x. x.at < length tree.now.history) }
-{
-    if index < count_in(tree, batch) {
-        return Some(step_in(tree, batch, index));
-    }
-    None
 }
 
 /// The block of the step at an index that is below the number of the steps.
@@ -152,36 +248,6 @@ fn step_slip<'a>(tree: &'a BlockTree, batch: &Batch, index: u64) -> &'a Slip
         ≡ Some result.now }
 {
     tree.slip(step_in(tree, batch, index).at)
-}
-
-/// The place after the first `count` steps of a batch, and after all of them where there are fewer.
-pub fn place_after_steps(tree: &BlockTree, batch: &Batch, count: u64) -> Result<Place, AllocError>
-    requires given { WasGiven tree.now.history batch.now }
-    ensures { (older : List SlipOf) (mode : ModeOf) (stop : Option ℕ)
-        → IsGiven tree.now.history older mode stop batch.now
-        → IfOk result (λ p. p ≡ place_along batch.now.place
-        (take count (steps_of older batch.now.place mode stop))) }
-{
-    let taken = count.min(count_in(tree, batch));
-    let end = or_copy(new_end(tree, batch, taken)?, &batch.place.end)?;
-    let lib = or_copy(new_lib(tree, batch, taken)?, &batch.place.lib)?;
-    Ok(Place { end, lib })
-}
-
-/// The place after all steps of a batch, made of the batch's own where that stays.
-pub fn place_after_all(tree: &BlockTree, batch: Batch) -> Result<Place, AllocError>
-    requires given { WasGiven tree.now.history batch }
-    ensures { (older : List SlipOf) (mode : ModeOf) (stop : Option ℕ)
-        → IsGiven tree.now.history older mode stop batch
-        → IfOk result (λ p. p ≡ place_along batch.place (steps_of older batch.place mode stop)) }
-{
-    let total = count_in(tree, &batch);
-    let end = new_end(tree, &batch, total)?;
-    let lib = new_lib(tree, &batch, total)?;
-    Ok(Place {
-        end: end.or(batch.place.end),
-        lib: lib.or(batch.place.lib),
-    })
 }
 
 /// The last block that the client has after some steps, where it is another: that of the last new
@@ -266,95 +332,4 @@ fn copy_of(block: &Option<BlockRef>) -> Result<Option<BlockRef>, AllocError>
 {
     let block = block.clone()?;
     Ok(block)
-}
-
-/// The step at an index that is below the number of the steps, with its block and its place.
-fn item_at(
-    tree: &BlockTree,
-    held: &HeldBlocks,
-    batch: &Batch,
-    index: u64,
-) -> Result<StepItem, AllocError>
-    requires sound { IsHistory tree.now.history }
-    requires own { HoldsOwn tree.now.history held.now.blocks }
-    requires given { WasGiven tree.now.history batch.now }
-    requires range { index < step_total batch.now }
-    requires small { index + 1 < 2 ^ 64 }
-    ensures step { (older : List SlipOf) (mode : ModeOf) (stop : Option ℕ)
-        → IsGiven tree.now.history older mode stop batch.now
-        → IfOk result (λ x. slice_get (steps_to older batch.now.place mode stop) index
-        ≡ Some (item_seen x)) }
-    ensures holds { IfOk result (HoldsWhatIs tree.now.history held.now.blocks) }
-    ensures own { IfOk result HasOwnBlock }
-{
-    let found = step_in(tree, batch, index);
-    let slip = copy_slip(tree.slip(found.at))?;
-    let place = place_after_steps(tree, batch, index + 1)?;
-    let shared = held.share(found.at)?;
-    Ok(StepItem {
-        step: found.step,
-        slip,
-        held: shared,
-        place,
-    })
-}
-
-/// Appends the steps from one index up to another.
-fn push_range(
-    tree: &BlockTree,
-    held: &HeldBlocks,
-    batch: &Batch,
-    from: u64,
-    end: u64,
-    out: &mut Vec<StepItem>,
-) -> Result<(), AllocError>
-    requires sound { IsHistory tree.now.history }
-    requires own { HoldsOwn tree.now.history held.now.blocks }
-    requires given { WasGiven tree.now.history batch.now }
-    requires range { end ≤ step_total batch.now }
-    ensures ok { (older : List SlipOf) (mode : ModeOf) (stop : Option ℕ)
-        → IsGiven tree.now.history older mode stop batch.now
-        → OnOk result (map item_seen out.new.items ≡ map item_seen out.old.items
-        ++ take (end - from) (drop from (steps_to older batch.now.place mode stop))) }
-    ensures holds { AllByRecursion (HoldsWhatIs tree.now.history held.now.blocks)
-        (drop (length out.old.items) out.new.items) }
-    ensures own { AllByRecursion HasOwnBlock (drop (length out.old.items) out.new.items) }
-    ensures kept { take (length out.old.items) out.new.items ≡ out.old.items }
-{
-    for index in from..end {
-        let item = item_at(tree, held, batch, index)?;
-        out.push(item)?;
-    }
-    Ok(())
-}
-
-/// Appends the steps of a batch from an index, at most `max`, and none where the index is at or past
-/// their end. At an error `out` stays as it was.
-pub fn push_items(
-    tree: &BlockTree,
-    held: &HeldBlocks,
-    batch: &Batch,
-    from: u64,
-    max: u32,
-    out: &mut Vec<StepItem>,
-) -> Result<(), AllocError>
-    requires own { HoldsOwn tree.now.history held.now.blocks }
-    requires given { WasGiven tree.now.history batch.now }
-    ensures ok { (older : List SlipOf) (mode : ModeOf) (stop : Option ℕ)
-        → IsGiven tree.now.history older mode stop batch.now
-        → OnOk result (map item_seen out.new.items ≡ map item_seen out.old.items
-        ++ take max (drop from (steps_to older batch.now.place mode stop))) }
-    ensures holds { OnOk result (AllByRecursion (HoldsWhatIs tree.now.history held.now.blocks)
-        (drop (length out.old.items) out.new.items)) }
-    ensures own { OnOk result (AllByRecursion HasOwnBlock
-        (drop (length out.old.items) out.new.items)) }
-    ensures err { OnErr result (out.new.items ≡ out.old.items) }
-{
-    let kept = out.len();
-    let end = count_in(tree, batch).min(from.saturating_add(u64::from(max)));
-    let pushed = push_range(tree, held, batch, from, end, out);
-    if pushed.is_err() {
-        out.truncate(kept);
-    }
-    pushed
 }

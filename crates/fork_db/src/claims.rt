@@ -1,17 +1,19 @@
 //! What a block claims to be final, before it is appended.
 
-ghost use Rattle.std.specs.Prelude.{◌≡◌, ◌<◌, ◌∷◌, length, Some, None, Option, IfSome, max, find, nat_le};
+ghost use Rattle.std.specs.Prelude.{◌≡◌, ◌<◌, ◌≤◌, ◌∷◌, length, Some, None, Option, IfSome, IfOk, false, max};
 ghost use Rattle.block_record.specs.declared.blocks.Slip.{Slip as SlipOf};
-ghost use Rattle.chain_model.specs.Ancestry.{ancestry, IsHistory};
-ghost use Rattle.chain_model.specs.Finality.{claim as claim_in, final_tip, root_num, greater};
-ghost use Rattle.block_tree.specs.Places.{slip_at, slip_of};
-ghost use Rattle.fork_db.specs.Claims.{claim_at};
-ghost use Rattle.fork_db.specs.Verdicts.{agrees_next};
+ghost use Rattle.block_record.specs.Slips.{slip as slip_of_block};
+ghost use Rattle.block_record.specs.SlipRefs.{slip_seen};
+ghost use Rattle.chain_model.specs.Ancestry.{has_id, IsHistory};
+ghost use Rattle.chain_model.specs.Finality.{claim as claim_in, final_tip as final_tip_in, root_num, greater};
+ghost use Rattle.block_tree.specs.Places.{place_of, slip_at};
+ghost use Rattle.fork_db.specs.Claims.{IsLinkOf, claim_at};
+ghost use Rattle.fork_db.specs.Verdicts.{agrees_next, fits, parent_verdict, verdict_by, verdict_of};
 
+use crate::db::{ForkDb, Verdict};
+use block_record::{Block, Slip, SlipRef};
 use block_tree::BlockTree;
-use link_rows::Steps;
-use std::marker::Brand;
-use std::sync::ledger::{Blank, Ledger};
+use link_rows::Uncounted;
 
 /// Where a next block is linked: at its parent, none for the first block, and at the block that it
 /// claims to be final, none where it claims itself.
@@ -28,6 +30,129 @@ pub enum ChildFault {
     ParentNumber,
     /// What it claims to be final and the final tip are not on one path.
     Disagrees,
+}
+
+impl ForkDb {
+    /// What the block at a place claims to be final.
+    pub fn claim(&self, at: usize) -> usize
+        requires { at < length self.now.history }
+        ensures value { (s : SlipOf) → slip_at self.now.history at ≡ Some s
+            → slip_at self.now.history result ≡ claim_in self.now.history s }
+        ensures range { result < length self.now.history }
+    {
+        self.claims[at] as usize
+    }
+
+    /// Whether a block may come next, and if not, why.
+    pub fn can_append(&self, block: &Block) -> Verdict
+        ensures { result ≡ verdict_of self.now.history (slip_of_block block.now) }
+    {
+        if self.tree.len() == 0 {
+            return Verdict::Fits;
+        }
+        if self.tree.find(&block.id).is_some() {
+            return Verdict::IdHeld;
+        }
+        match self.tree.find(&block.parent_id) {
+            Some(parent) => {
+                let slip = SlipRef::of_block(block);
+                verdict_from(judge_child(&self.tree, self.tip, parent, slip))
+            }
+            None => Verdict::NoParent,
+        }
+    }
+
+    /// The same for a block by its slip, whose id is new and whose parent stands at a place: where
+    /// it is linked, if it may come next.
+    pub fn can_append_on(&self, parent: usize, slip: SlipRef) -> Result<Linked, ChildFault>
+        requires fresh { has_id self.now.history (slip_seen slip).id ≡ false }
+        requires parent { place_of self.now.history (slip_seen slip).parent_id ≡ Some parent }
+        ensures verdict { verdict_by result
+            ≡ verdict_of self.now.history (slip_seen slip.entry) }
+        ensures linked { IfOk result (IsLinkOf self.now.history (slip_seen slip.entry)) }
+    {
+        let _ = self.tree.len();
+        judge_child(&self.tree, self.tip, parent, slip)
+    }
+
+    /// Where a block is linked that may come next and whose parent's place is known, none for the
+    /// first block. `can_append_on` gives the same.
+    pub fn link(&self, parent: Option<usize>, slip: &Slip) -> Linked
+        requires fits { verdict_of self.now.history slip.now ≡ fits }
+        requires parent { place_of self.now.history slip.now.parent_id ≡ parent }
+        ensures { IsLinkOf self.now.history slip.now result }
+    {
+        let _ = self.tree.len();
+        let claim = older_claim(&self.tree, parent, slip);
+        Linked { parent, claim }
+    }
+}
+
+/// Whether a block may come next whose id is new and whose parent stands at a place.
+fn judge_child(
+    tree: &BlockTree,
+    tip: usize,
+    parent: usize,
+    slip: SlipRef,
+) -> Result<Linked, ChildFault>
+    requires sound { IsHistory tree.now.history }
+    requires tip { tip < length tree.now.history }
+    requires tip_is { slip_at tree.now.history tip ≡ final_tip_in tree.now.history }
+    requires fresh { has_id tree.now.history (slip_seen slip).id ≡ false }
+    requires parent { place_of tree.now.history (slip_seen slip).parent_id ≡ Some parent }
+    ensures verdict { verdict_by result ≡ parent_verdict tree.now.history
+        (slip_seen slip.entry) (slip_at tree.now.history parent) }
+    ensures linked { IfOk result (IsLinkOf tree.now.history (slip_seen slip.entry)) }
+{
+    let held = tree.slip(parent);
+    if held.num != slip.parent_num || held.num >= slip.num {
+        return Err(ChildFault::ParentNumber);
+    }
+    let claim = claim_below(tree, parent, slip.num, slip.lib_num);
+    if agrees_with_tip(tree, tip, parent, claim) {
+        Ok(Linked {
+            parent: Some(parent),
+            claim,
+        })
+    } else {
+        Err(ChildFault::Disagrees)
+    }
+}
+
+/// The verdict on a block whose id is new and whose parent is there.
+fn verdict_from(judged: Result<Linked, ChildFault>) -> Verdict
+    ensures { result ≡ verdict_by judged }
+{
+    match judged {
+        Ok(_) => Verdict::Fits,
+        Err(ChildFault::ParentNumber) => Verdict::ParentNumber,
+        Err(ChildFault::Disagrees) => Verdict::Disagrees,
+    }
+}
+
+/// The place of what the next block claims, which may be its own.
+pub fn claim_place(tree: &BlockTree, linked: Linked, slip: &Slip) -> usize
+    requires { IsLinkOf tree.now.history slip.now linked }
+    ensures value { slip_at (slip.now ∷ tree.now.history) result
+        ≡ claim_in (slip.now ∷ tree.now.history) slip.now }
+    ensures range { result ≤ length tree.now.history }
+{
+    let _ = slip;
+    linked.claim.unwrap_or(tree.len())
+}
+
+/// What the next block claims: a block of the history, or none where it claims itself.
+fn older_claim(tree: &BlockTree, parent: Option<usize>, slip: &Slip) -> Option<usize>
+    requires sound { IsHistory (slip.now ∷ tree.now.history) }
+    requires parent { place_of tree.now.history slip.now.parent_id ≡ parent }
+    ensures value { claim_in (slip.now ∷ tree.now.history) slip.now
+        ≡ claim_at (slip.now ∷ tree.now.history) result }
+    ensures range { IfSome result (λ c. c < length tree.now.history) }
+{
+    match parent {
+        Some(parent) => claim_below(tree, parent, slip.num, slip.lib_num),
+        None => None,
+    }
 }
 
 /// Up to which number a block with this lib number claims.
@@ -52,23 +177,7 @@ pub fn claim_below(tree: &BlockTree, parent: usize, num: u64, lib_num: u64) -> O
     if num <= limit {
         return None;
     }
-    last_by::<Brand>(tree, parent, limit, Blank::new(1))
-}
-
-/// The last block of the path with a number of at most the limit.
-pub fn last_by<L: Ledger>(tree: &BlockTree, at: usize, limit: u64, blank: Blank) -> Option<usize>
-    requires range { at < length tree.now.history }
-    requires name { blank.name ≡ L.name }
-    requires parts { blank.parts ≡ L.parts }
-    requires more { 0 < L.parts }
-    ensures value { (s : SlipOf) → slip_at tree.now.history at ≡ Some s
-        → slip_of tree.now.history result
-        ≡ find (λ x. nat_le x.num limit) (ancestry tree.now.history s.id) }
-    ensures range { IfSome result (λ p. p < length tree.now.history) }
-{
-    let mut steps = Steps::<L>::new(blank);
-    let found = tree.last_up_to(at, limit, &mut steps);
-    found
+    tree.last_up_to(parent, limit, &mut Uncounted)
 }
 
 /// Whether what a next block claims agrees with the final tip.
@@ -78,13 +187,15 @@ pub fn agrees_with_tip(tree: &BlockTree, tip: usize, parent: usize, claim: Optio
     requires claim { IfSome claim (λ c. c < length tree.now.history) }
     ensures { (s p : SlipOf) → IsHistory (s ∷ tree.now.history)
         → slip_at tree.now.history parent ≡ Some p → s.parent_id ≡ p.id
-        → slip_at tree.now.history tip ≡ final_tip tree.now.history
+        → slip_at tree.now.history tip ≡ final_tip_in tree.now.history
         → claim_in (s ∷ tree.now.history) s ≡ claim_at (s ∷ tree.now.history) claim
         → result ≡ agrees_next tree.now.history s }
 {
     match claim {
-        Some(claim) => tree.on_path(claim, tip) || tree.on_path(tip, claim),
-        None => tree.on_path(tip, parent),
+        Some(claim) => {
+            tree.on_path(claim, tip, &mut Uncounted) || tree.on_path(tip, claim, &mut Uncounted)
+        }
+        None => tree.on_path(tip, parent, &mut Uncounted),
     }
 }
 

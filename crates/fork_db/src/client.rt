@@ -9,10 +9,8 @@ ghost use Rattle.fork_db.specs.Batches.{WasGiven};
 use crate::{Batch, ForkDb};
 use block_record::BlockRef;
 use chain_model::{Mode, Place};
-use link_rows::Steps;
+use link_rows::Uncounted;
 use std::alloc::AllocError;
-use std::marker::Brand;
-use std::sync::ledger::{Blank, Ledger};
 
 /// Whether the place fits the history.
 pub fn place_fits(db: &ForkDb, place: &Place) -> bool
@@ -70,25 +68,6 @@ pub fn batch_at(
     requires ahead { IsAhead stop place.now.end }
     ensures { IfOk result (λ b. WasGiven db.now.history b) }
 {
-    let batch = batch_by::<Brand>(db, place, mode, stop, Blank::new(1))?;
-    Ok(batch)
-}
-
-fn batch_by<L: Ledger>(
-    db: &ForkDb,
-    place: &Place,
-    mode: Mode,
-    stop: Option<u64>,
-    blank: Blank,
-) -> Result<Batch, AllocError>
-    requires fits { PlaceFits db.now.history place.now.end place.now.lib }
-    requires ahead { IsAhead stop place.now.end }
-    requires name { blank.name ≡ L.name }
-    requires parts { blank.parts ≡ L.parts }
-    requires more { 0 < L.parts }
-    ensures { IfOk result (λ b. WasGiven db.now.history b) }
-{
-    let mut steps = Steps::<L>::new(blank);
-    let batch = db.batch(place, mode, stop, &mut steps)?;
+    let batch = db.batch(place, mode, stop, &mut Uncounted)?;
     Ok(batch)
 }

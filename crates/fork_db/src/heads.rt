@@ -11,6 +11,7 @@ ghost use Rattle.fork_db.specs.declared.heads.Rival.{Rival as RivalOf};
 ghost use Rattle.fork_db.specs.Heads.{IsRanked, IsRivalOf, HoldsTipAt, rival_cmp};
 
 use block_tree::BlockTree;
+use link_rows::Uncounted;
 use std::alloc::{AllocError, Global};
 use std::cmp::Reverse;
 use std::collections::BinaryHeap;
@@ -96,7 +97,7 @@ impl Heads {
     {
         let at = tree.len() - 1;
         self.room -= 1;
-        if tree.on_path(tip, at) {
+        if tree.on_path(tip, at, &mut Uncounted) {
             self.head = admit(&mut self.rivals, tree, tip, self.head);
         }
     }
@@ -119,7 +120,7 @@ fn admit(rivals: &mut BinaryHeap<Rival>, tree: &BlockTree, tip: usize, head: usi
 {
     let at = tree.len() - 1;
     // The head before is on the path of this one, and so it needs no place among the rivals.
-    if tree.on_path(head, at) {
+    if tree.on_path(head, at, &mut Uncounted) {
         return at;
     }
     let newest = rival_at(tree, at);
@@ -129,7 +130,7 @@ fn admit(rivals: &mut BinaryHeap<Rival>, tree: &BlockTree, tip: usize, head: usi
         return at;
     }
     keep(rivals, newest);
-    if tree.on_path(tip, head) {
+    if tree.on_path(tip, head, &mut Uncounted) {
         return head;
     }
     match take_best(rivals, tree, tip) {
@@ -183,7 +184,7 @@ fn take_best(rivals: &mut BinaryHeap<Rival>, tree: &BlockTree, tip: usize) -> Op
         → (result ≡ Some r) ⊎ Contains (heap_items rivals.new) r }
 {
     while let Some(rival) = rivals.pop() {
-        if tree.on_path(tip, rival.place.0) {
+        if tree.on_path(tip, rival.place.0, &mut Uncounted) {
             return Some(rival);
         }
     }

@@ -1,19 +1,37 @@
 //! Where a client begins.
 
 ghost use Rattle.std.specs.Prelude.{◌≡◌, ◌<◌, find, length, nat_lt, IfOk, IfSome, Some};
-ghost use Rattle.chain_model.specs.Finality.{ancestry_of, final_tip};
+ghost use Rattle.chain_model.specs.Finality.{ancestry_of};
 ghost use Rattle.chain_model.specs.Places.{opening as opening_in};
 ghost use Rattle.chain_model.specs.Steps.{ref_of};
 ghost use Rattle.block_tree.specs.Places.{slip_of};
 
 use crate::chunks::reference;
-use crate::claims::last_by;
+use crate::db::ForkDb;
 use block_record::Slip;
 use block_tree::BlockTree;
 use chain_model::Place;
+use link_rows::Uncounted;
 use std::alloc::AllocError;
-use std::marker::Brand;
-use std::sync::ledger::Blank;
+
+impl ForkDb {
+    /// The place of a client that begins at this number: the last final block with a lower number,
+    /// as end and as lib, or none of both.
+    pub fn opening(&self, start: u64) -> Result<Place, AllocError>
+        ensures { IfOk result (λ p. p ≡ opening_in self.now.history start) }
+    {
+        match last_below(&self.tree, self.final_tip(), start) {
+            Some(at) => {
+                let place = place_at(self.tree.slip(at))?;
+                Ok(place)
+            }
+            None => Ok(Place {
+                end: None,
+                lib: None,
+            }),
+        }
+    }
+}
 
 /// The last block of the path of a block with a number below the start.
 fn last_below(tree: &BlockTree, at: Option<usize>, start: u64) -> Option<usize>
@@ -28,7 +46,7 @@ fn last_below(tree: &BlockTree, at: Option<usize>, start: u64) -> Option<usize>
     if at >= tree.len() {
         return None;
     }
-    last_by::<Brand>(tree, at, start - 1, Blank::new(1))
+    tree.last_up_to(at, start - 1, &mut Uncounted)
 }
 
 /// The place of a client that knows the block and all before it to be final.
@@ -40,21 +58,4 @@ fn place_at(block: &Slip) -> Result<Place, AllocError>
         end: Some(reference(block)?),
         lib: Some(reference(block)?),
     })
-}
-
-/// The place of a client that begins at this number.
-pub fn opening(tree: &BlockTree, tip: Option<usize>, start: u64) -> Result<Place, AllocError>
-    requires tip { slip_of tree.now.history tip ≡ final_tip tree.now.history }
-    ensures { IfOk result (λ p. p ≡ opening_in tree.now.history start) }
-{
-    match last_below(tree, tip, start) {
-        Some(at) => {
-            let place = place_at(tree.slip(at))?;
-            Ok(place)
-        }
-        None => Ok(Place {
-            end: None,
-            lib: None,
-        }),
-    }
 }

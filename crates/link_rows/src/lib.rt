@@ -1,10 +1,10 @@
 //! One rooted tree of numbered places, with far links.
 #![tactic(auto)]
 
+mod counts;
 mod rows;
-mod steps;
 #[cfg(test)]
 mod tests;
 
+pub use counts::{LinkCount, Steps, Uncounted};
 pub use rows::{LinkRows, PLACES_MAX, digits};
-pub use steps::Steps;

@@ -1,9 +1,9 @@
 //! Small trees, with answers worked out by hand, and one that is deep.
 
-ghost use Rattle.std.specs.Prelude.{◌≡◌, ◌<◌, ◌+◌, ◌≤◌, IsTrue};
+ghost use Rattle.std.specs.Prelude.{◌≡◌, ◌<◌, ◌+◌, ◌*◌, ◌^◌, ◌≤◌, ℕ, length, IsTrue};
 ghost use Rattle.link_rows.specs.Tree.{IsNext};
 
-use crate::{LinkRows, Steps, digits};
+use crate::{LinkCount, LinkRows, Steps, Uncounted, digits};
 use std::alloc::{AllocError, Global};
 use std::marker::Brand;
 use std::process::Abort;
@@ -77,28 +77,18 @@ const CASES: &[(Parents, Call, Option<usize>)] = &[
 
 #[test]
 fn small_trees_answer_as_by_hand(rt: HostRuntime) -> Result<(), Fail> {
-    run_cases::<Brand>(&rt, rt.alloc(), Blank::new(1))?;
-    Ok(())
-}
-
-fn run_cases<L: Ledger>(rt: &impl Abort, alloc: Global, blank: Blank) -> Result<(), AllocError>
-    requires name { blank.name ≡ L.name }
-    requires parts { blank.parts ≡ L.parts }
-    requires more { 0 < L.parts }
-{
-    let mut steps = Steps::<L>::new(blank);
     for (parents, call, wanted) in CASES {
-        let rows = tree_of(rt, alloc, parents)?;
-        assert_eq!(rt; answer(rt, &rows, *call, &mut steps), *wanted, "{call:?}");
+        let rows = tree_of(&rt, rt.alloc(), parents)?;
+        assert_eq!(rt; answer(&rt, &rows, *call, &mut Uncounted), *wanted);
     }
     Ok(())
 }
 
-fn answer<L: Ledger>(
+fn answer<C: LinkCount>(
     rt: &impl Abort,
     rows: &LinkRows,
     call: Call,
-    steps: &mut Steps<L>,
+    links: &mut C,
 ) -> Option<usize> {
     match call {
         Depth { at } => {
@@ -107,17 +97,17 @@ fn answer<L: Ledger>(
         }
         Link { at, k } => {
             assert!(rt; at < rows.len());
-            rows.link(at, k, steps)
+            rows.link(at, k, links)
         }
         Up { at, depth } => {
             assert!(rt; at < rows.len());
             assert!(rt; depth <= rows.depth(at));
-            Some(rows.up(at, depth, steps))
+            Some(rows.up(at, depth, links))
         }
         Meet { a, b } => {
             assert!(rt; a < rows.len());
             assert!(rt; b < rows.len());
-            Some(rows.meet(a, b, steps))
+            Some(rows.meet(a, b, links))
         }
     }
 }
@@ -227,10 +217,32 @@ fn run_deep<L: Ledger>(rt: &impl Abort, rows: &LinkRows, blank: Blank)
     requires parts { blank.parts ≡ L.parts }
     requires more { 0 < L.parts }
 {
-    let mut steps = Steps::<L>::new(blank);
+    let mut links = Steps::<L>::new(blank);
     for (call, wanted) in DEEP {
-        assert_eq!(rt; answer(rt, rows, *call, &mut steps), *wanted, "{call:?}");
+        assert_eq!(rt; answer(rt, rows, *call, &mut links), *wanted);
     }
+}
+
+/// What a caller with a counter gets of a link: exactly one more.
+fn counted_link<L: Ledger>(
+    rows: &LinkRows,
+    at: usize,
+    k: u32,
+    links: &mut Steps<L>,
+) -> Option<usize>
+    requires { at < length rows.now.parents }
+    ensures { links.new ≡ links.old + 1 }
+{
+    rows.link(at, k, links)
+}
+
+/// What a caller with a counter gets of a meeting: at most 1 + 3 d more.
+fn counted_meeting<L: Ledger>(rows: &LinkRows, a: usize, b: usize, links: &mut Steps<L>) -> usize
+    requires a_range { a < length rows.now.parents }
+    requires b_range { b < length rows.now.parents }
+    ensures { (d : ℕ) → length rows.now.parents < 2 ^ d → links.new ≤ links.old + 1 + 3 * d }
+{
+    rows.meet(a, b, links)
 }
 
 const DIGITS: &[(u64, u32)] = &[
@@ -247,6 +259,6 @@ const DIGITS: &[(u64, u32)] = &[
 #[test]
 fn numbers_have_their_binary_digits(rt: HostRuntime) {
     for (n, wanted) in DIGITS {
-        assert_eq!(rt; digits(*n), *wanted, "{n}");
+        assert_eq!(rt; digits(*n), *wanted);
     }
 }

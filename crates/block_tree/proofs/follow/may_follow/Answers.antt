@@ -3,7 +3,7 @@ use Rattle.std.specs.Option.{option_copied}
 use Rattle.block_record.specs.declared.blocks.Slip.{Slip}
 use Rattle.chain_model.specs.Ancestry.{find_id, has_id, IsHistory}
 use Rattle.block_tree.specs.Places.{place_of}
-use Rattle.block_tree.proofs.PlaceFacts.{is_held}
+use Rattle.block_tree.proofs.public.PlaceFacts.{is_held}
 use Rattle.block_tree.proofs.follow.may_follow.Goals as goal
 
 not_both : (b : Bool) → b ≡ false → IsTrue b → ⊥

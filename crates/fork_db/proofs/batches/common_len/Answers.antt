@@ -1,7 +1,8 @@
 use Rattle.std.proofs.Common.{arith, None, refl}
 use Rattle.chain_model.specs.Finality.{ancestry_of}
 use Rattle.block_tree.specs.Places.{slip_of}
-use Rattle.fork_db.proofs.BatchFacts.{common_length, none_common_left, none_common_right, slip_none}
+use Rattle.block_tree.proofs.public.PlaceFacts.{slip_none}
+use Rattle.fork_db.proofs.BatchFacts.{common_length, none_common_left, none_common_right}
 use Rattle.fork_db.proofs.batches.common_len.Goals as goal
 
 pub returns-in-Some-Some-clause-len : goal.returns-in-Some-Some-clause-len

@@ -1,4 +1,4 @@
-use Rattle.fork_db.proofs.BatchFacts.{path_of_id}
+use Rattle.block_tree.proofs.public.PlaceFacts.{path_of_id}
 use Rattle.fork_db.proofs.batches.find_ref.Goals as goal
 
 pub returns-in-Some : goal.returns-in-Some

@@ -1,5 +1,5 @@
 use Rattle.std.proofs.Common.{ap, sym, ◌∙◌, max}
-use Rattle.fork_db.proofs.ClaimFacts.{root_at}
+use Rattle.fork_db.proofs.public.ClaimFacts.{root_at}
 use Rattle.fork_db.proofs.claims.claim_limit.Goals as goal
 
 pub returns : goal.returns

@@ -6,7 +6,7 @@ use Rattle.chain_model.specs.Finality.{ancestry_of, final_tip, on_path}
 use Rattle.chain_model.specs.Places.{BlocksFit}
 use Rattle.chain_laws.proofs.public.Lines.{some_and}
 use Rattle.block_tree.specs.Places.{slip_at}
-use Rattle.block_tree.proofs.PlaceFacts.{slip_at_within}
+use Rattle.block_tree.proofs.public.PlaceFacts.{slip_at_within}
 use Rattle.fork_db.proofs.client.blocks_fit.Goals as goal
 
 -- the block at a place is the one at a reference

@@ -3,7 +3,7 @@ use Rattle.std.proofs.lemmas.Option.{same_Some}
 use Rattle.block_record.specs.declared.blocks.Slip.{Slip}
 use Rattle.chain_model.specs.Ancestry.{find_id}
 use Rattle.block_tree.specs.Places.{place_of, slip_at}
-use Rattle.block_tree.proofs.PlaceFacts.{place_slip}
+use Rattle.block_tree.proofs.public.PlaceFacts.{place_slip}
 use Rattle.fork_db.proofs.client.find_block.Goals as goal
 
 block_found : (newest : List Slip) (at : ℕ) (id : List ℕ) (num : ℕ) (x : Slip) → place_of newest id ≡ Some at → slip_at newest at ≡ Some x → x.num ≡ num

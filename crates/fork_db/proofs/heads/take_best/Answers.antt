@@ -20,7 +20,7 @@ returns-then-on_path-clause-others c = λ r has holds.
 
 pub loop-rival-preserved : goal.loop-rival-preserved
 loop-rival-preserved c =
-    let off = off_if _ _ _ _ c.requires.tip c.requires.range c.on_path.ensures c.if-on_path.false in (
+    let off = off_if _ _ _ _ c.requires.tip c.requires.range c.on_path.ensures.value c.if-on_path.false in (
       search rules,
       own_left _ _ _ _ c.loop-rival.invariant.1 c.in-Some.ensures.permutation,
       search rules,

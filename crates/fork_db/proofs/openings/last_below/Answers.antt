@@ -14,5 +14,5 @@ returns-then-at-len-clause-value c =
 
 pub returns-clause-value : goal.returns-clause-value
 returns-clause-value c =
-    below_at c.args.tree.now.history c.in_ok-at.at (c.args.start - 1) c.args.start _ (omega (arith, c.len.ensures.len, c.if-at-len.false)) (omega (arith, c.if-start-eq0.false)) c.last_by.ensures.value
+    below_at c.args.tree.now.history c.in_ok-at.at (c.args.start - 1) c.args.start _ (omega (arith, c.len.ensures.len, c.if-at-len.false)) (omega (arith, c.if-start-eq0.false)) c.last_up_to.ensures.value
     ∙ ap (λ o. find (λ s. nat_lt s.num c.args.start) (ancestry_of c.args.tree.now.history (slip_of c.args.tree.now.history o))) (sym c.in_ok-at.was)

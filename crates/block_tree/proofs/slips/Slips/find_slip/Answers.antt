@@ -1,5 +1,5 @@
 use Rattle.std.proofs.Common.{sym, ◌∙◌}
-use Rattle.block_tree.proofs.PlaceFacts.{find_none, place_range, find_some}
+use Rattle.block_tree.proofs.public.PlaceFacts.{find_none, place_range, find_some}
 use Rattle.block_tree.proofs.slips.Slips.find_slip.Goals as goal
 
 pub slip-requires : goal.slip-requires

@@ -1,7 +1,7 @@
 use Rattle.std.proofs.Common.{subst, ◌≡◌}
 use Rattle.chain_model.specs.Ancestry.{IsHistory}
 use Rattle.block_tree.specs.Places.{parent_places}
-use Rattle.block_tree.proofs.WalkFacts.{in_tree, depth_is}
+use Rattle.block_tree.proofs.public.WalkFacts.{in_tree, depth_is}
 use Rattle.block_tree.proofs.tree.BlockTree.depth.Goals as goal
 
 pub depth-requires : goal.depth-requires

@@ -1,10 +1,10 @@
 use Rattle.std.proofs.Common.{arith, ap, ◌∙◌, subst, ◌≡◌, Some}
 use Rattle.chain_model.specs.Ancestry.{IsHistory}
 use Rattle.block_tree.specs.Places.{parent_places, slip_at}
-use Rattle.link_rows.proofs.Meets.{digits_cost}
+use Rattle.link_rows.proofs.public.Meets.{digits_cost}
 use Rattle.link_rows.specs.Tree.{ancestors}
 use Rattle.std.specs.List.{slice_get}
-use Rattle.block_tree.proofs.WalkFacts.{in_tree, at_once, tree_path, cut_zero, cut_rounds, cut_step, cut_end, depth_short, range_of, cut_range}
+use Rattle.block_tree.proofs.public.WalkFacts.{in_tree, at_once, tree_path, cut_zero, cut_rounds, cut_step, cut_end, depth_short, range_of, cut_range}
 use Rattle.block_tree.proofs.tree.BlockTree.last_up_to.Goals as goal
 
 pub returns-then-num-limit-clause-value : goal.returns-then-num-limit-clause-value
@@ -27,7 +27,7 @@ pub skip-from-requires : goal.skip-from-requires
 skip-from-requires g c = record { range = cut_range _ _ _ _ _ c.loop-i.invariant.0 }
 
 pub loop-i-preserved : goal.loop-i-preserved
-loop-i-preserved g c = (cut_step _ _ _ _ _ _ _ _ c.loop-i.invariant.0 (omega arith) (omega arith) c.skip-from.ensures.value, omega (arith, c.skip-from.ensures.cost, c.loop-i.invariant.1))
+loop-i-preserved g c = (cut_step _ _ _ _ _ _ _ _ c.loop-i.invariant.0 (omega arith) (omega arith) c.skip-from.ensures.value, omega (arith, c.skip-from.ensures.cost, g.met.C.LinkCount.cheap, c.loop-i.invariant.1))
 
 pub link-requires : goal.link-requires
 link-requires g c =
@@ -48,4 +48,4 @@ returns-clause-range g c =
 pub returns-clause-cost : goal.returns-clause-cost
 returns-clause-cost g c = λ d lt.
     let rows = subst (λ v. c.self.inside.rows.parents ≡ parent_places v.history) c.self.view_is c.self.invariant.0 in
-    omega (arith, digits_cost _ _ _ d c.rounds-count.ensures.least (depth_short _ _ _ (tree_path _ _ _ _ rows c.depth.ensures)) lt, c.loop-i.invariant.1, c.link.ensures.cost)
+    omega (arith, digits_cost _ _ _ d c.rounds-count.ensures.least (depth_short _ _ _ (tree_path _ _ _ _ rows c.depth.ensures)) lt, c.loop-i.invariant.1, c.link.ensures.cost, g.met.C.LinkCount.cheap)

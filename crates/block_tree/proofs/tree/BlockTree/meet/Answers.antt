@@ -1,8 +1,8 @@
 use Rattle.std.proofs.Common.{subst, ◌≡◌}
 use Rattle.chain_model.specs.Ancestry.{IsHistory}
 use Rattle.block_tree.specs.Places.{parent_places}
-use Rattle.block_tree.proofs.WalkFacts.{in_tree, tree_cost}
-use Rattle.block_tree.proofs.PathFacts.{meeting_slip, meeting_range}
+use Rattle.block_tree.proofs.public.WalkFacts.{in_tree, tree_cost}
+use Rattle.block_tree.proofs.public.PathFacts.{meeting_slip, meeting_range}
 use Rattle.block_tree.proofs.tree.BlockTree.meet.Goals as goal
 
 pub meet-requires-clause-a_range : goal.meet-requires-clause-a_range

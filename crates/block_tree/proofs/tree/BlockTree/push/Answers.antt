@@ -2,7 +2,7 @@ use Rattle.std.proofs.Common.{arith, sym, subst, ◌∷◌, ◌≡◌, refl}
 use Rattle.chain_model.specs.Ancestry.{IsHistory}
 use Rattle.chain_laws.proofs.public.Lines.{is_fresh}
 use Rattle.block_tree.specs.Places.{place_of}
-use Rattle.block_tree.proofs.ParentFacts.{next_fits}
+use Rattle.block_tree.proofs.public.ParentFacts.{next_fits}
 use Rattle.block_tree.proofs.tree.BlockTree.push.Goals as goal
 
 pub push-requires-clause-fresh : goal.push-requires-clause-fresh

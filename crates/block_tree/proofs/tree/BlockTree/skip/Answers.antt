@@ -1,6 +1,6 @@
 use Rattle.std.proofs.Common.{sym, ◌∙◌, subst, ◌≡◌}
 use Rattle.block_tree.specs.Places.{parent_places}
-use Rattle.block_tree.proofs.WalkFacts.{in_tree, line_range}
+use Rattle.block_tree.proofs.public.WalkFacts.{in_tree, line_range}
 use Rattle.block_tree.proofs.tree.BlockTree.skip.Goals as goal
 
 pub link-requires : goal.link-requires

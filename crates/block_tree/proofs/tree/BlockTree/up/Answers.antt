@@ -1,8 +1,8 @@
 use Rattle.std.proofs.Common.{subst, ◌≡◌}
 use Rattle.chain_model.specs.Ancestry.{IsHistory}
 use Rattle.block_tree.specs.Places.{parent_places}
-use Rattle.block_tree.proofs.WalkFacts.{in_tree, tree_cost}
-use Rattle.block_tree.proofs.PathFacts.{path_slip, path_none, path_range}
+use Rattle.block_tree.proofs.public.WalkFacts.{in_tree, tree_cost}
+use Rattle.block_tree.proofs.public.PathFacts.{path_slip, path_none, path_range}
 use Rattle.block_tree.proofs.tree.BlockTree.up.Goals as goal
 
 pub depth-requires : goal.depth-requires

@@ -4,7 +4,7 @@ use Rattle.block_tree.specs.Places.{place_of}
 use Rattle.fork_db.specs.Claims.{IsLinkOf}
 use Rattle.fork_db.specs.Heads.{IsRanked}
 use Rattle.fork_db.specs.Verdicts.{verdict_of, fits}
-use Rattle.fork_db.proofs.ClaimFacts.{next_tip, tip_within, next_agrees, append_claims}
+use Rattle.fork_db.proofs.public.ClaimFacts.{next_tip, tip_within, next_agrees, append_claims}
 use Rattle.fork_db.proofs.VerdictFacts.{IsNext, fits_next}
 use Rattle.fork_db.proofs.HeldFacts.{held_push, slip_held}
 use Rattle.chain_model.specs.Ancestry.{IsHistory}

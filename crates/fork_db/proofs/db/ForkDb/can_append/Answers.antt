@@ -4,7 +4,7 @@ use Rattle.block_record.specs.declared.blocks.Slip.{Slip}
 use Rattle.chain_model.specs.Ancestry.{has_id}
 use Rattle.block_tree.specs.Places.{place_of, slip_at}
 use Rattle.fork_db.specs.Verdicts.{parent_verdict, verdict_of}
-use Rattle.fork_db.proofs.ClaimFacts.{tip_range}
+use Rattle.fork_db.proofs.public.ClaimFacts.{tip_range}
 use Rattle.fork_db.proofs.VerdictFacts.{verdict_held, verdict_none, verdict_parent, not_held}
 use Rattle.fork_db.proofs.db.ForkDb.can_append.Goals as goal
 

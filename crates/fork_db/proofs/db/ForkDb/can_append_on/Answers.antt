@@ -1,12 +1,12 @@
 use Rattle.std.proofs.Common.{arith, ◌≡◌, false, Some, subst, ap, sym, ◌∙◌, IfOk}
 use Rattle.block_record.specs.SlipRefs.{slip_seen}
 use Rattle.block_tree.specs.Places.{place_of}
-use Rattle.block_tree.proofs.PlaceFacts.{is_held, place_range}
+use Rattle.block_tree.proofs.public.PlaceFacts.{is_held, place_range}
 use Rattle.chain_model.specs.Ancestry.{has_id}
 use Rattle.fork_db.specs.Claims.{IsLinkOf}
 use Rattle.fork_db.specs.Forks.{Forks}
 use Rattle.fork_db.specs.Verdicts.{verdict_of}
-use Rattle.fork_db.proofs.ClaimFacts.{tip_range}
+use Rattle.fork_db.proofs.public.ClaimFacts.{tip_range}
 use Rattle.fork_db.proofs.VerdictFacts.{verdict_parent}
 use Rattle.fork_db.proofs.db.ForkDb.can_append_on.Goals as goal
 

@@ -1,11 +1,13 @@
-use Rattle.std.proofs.Common.{subst, ◌≡◌, ◌++◌, ℕ, List, Option, OnOk, drop, map, take}
-use Rattle.block_record.specs.declared.blocks.Slip.{Slip}
-use Rattle.chain_model.specs.declared.places.Mode.{Mode}
-use Rattle.chain_model.specs.Places.{steps_to}
+use Rattle.std.proofs.Common.{arith, ◌≡◌, ◌++◌, map, subst, sym}
+use Rattle.std.specs.Result.{OnOk}
 use Rattle.fork_db.specs.Batches.{IsGiven, item_seen}
+use Rattle.fork_db.proofs.PlaceFacts.{chunk_is}
+use Rattle.fork_db.proofs.StepFacts.{runs_of}
 use Rattle.fork_db.proofs.db.ForkDb.chunk.Goals as goal
 
-pub returns-clause-ok : goal.returns-clause-ok
-returns-clause-ok c =
-    subst (λ v. (older : List Slip) (mode : Mode) (stop : Option ℕ) → IsGiven v.history older mode stop c.args.batch.now
-    → OnOk c.push_items.result (map item_seen c.push_items.new.out.items ≡ map item_seen c.args.out.now.items ++ take c.args.max (drop c.args.from (steps_to older c.args.batch.now.place mode stop)))) c.self.view_is c.push_items.ensures.ok
+pub returns-else-is_err-clause-ok : goal.returns-else-is_err-clause-ok
+returns-else-is_err-clause-ok c = λ older m stop given.
+    let r = runs_of _ older m stop _ c.count_in.ensures.sound (subst (λ v. IsGiven v.history older m stop c.args.batch.now) (sym c.self.view_is) given) in
+    subst (λ l. OnOk c.push_range-pushed.result (map item_seen c.push_range-pushed.new.out.items ≡ map item_seen c.args.out.now.items ++ l))
+    (chunk_is _ _ _ r c.args.from c.args.max c.min-end.result c.saturating_add.result (omega (arith, c.saturating_add.ensures, c.count_in.ensures.total, c.from.ensures)) (omega (arith, c.min-end.ensures, c.count_in.ensures.total)))
+    (c.push_range-pushed.ensures.ok older m stop given)

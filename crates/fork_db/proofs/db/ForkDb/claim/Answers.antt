@@ -2,7 +2,7 @@ use Rattle.std.proofs.Common.{sym, subst, ◌<◌, ◌≡◌, length, Some, reve
 use Rattle.block_record.specs.declared.blocks.Slip.{Slip}
 use Rattle.chain_model.specs.Finality.{claim}
 use Rattle.block_tree.specs.Places.{slip_at}
-use Rattle.fork_db.proofs.ClaimFacts.{claims_room, claim_kept_at, claim_item, claim_within}
+use Rattle.fork_db.proofs.public.ClaimFacts.{claims_room, claim_kept_at, claim_item, claim_within}
 use Rattle.fork_db.proofs.db.ForkDb.claim.Goals as goal
 
 pub index-requires : goal.index-requires

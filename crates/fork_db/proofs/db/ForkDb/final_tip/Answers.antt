@@ -1,5 +1,5 @@
 use Rattle.std.proofs.Common.{arith, subst, ◌<◌, length}
-use Rattle.fork_db.proofs.ClaimFacts.{tip_range}
+use Rattle.fork_db.proofs.public.ClaimFacts.{tip_range}
 use Rattle.fork_db.proofs.db.ForkDb.final_tip.Goals as goal
 
 pub returns-clause-range : goal.returns-clause-range

@@ -10,7 +10,7 @@ on_path-requires-clause-a_range c = tip_range _ _ c.len-at.ensures.sound c.requi
 pub admit-self-inside-requires-clause-holds : goal.admit-self-inside-requires-clause-holds
 admit-self-inside-requires-clause-holds c =
     let range = tip_range _ _ c.len-at.ensures.sound c.requires.some c.requires.tip in
-    newest_holds _ _ _ _ c.requires.tip range c.len-at.ensures.len c.requires.some c.on_path.ensures c.if-on_path.true
+    newest_holds _ _ _ _ c.requires.tip range c.len-at.ensures.len c.requires.some c.on_path.ensures.value c.if-on_path.true
 
 pub returns-then-on_path-clause-head : goal.returns-then-on_path-clause-head
 returns-then-on_path-clause-head c = head_at _ _ _ c.admit-self-inside.ensures.ranked
@@ -20,11 +20,11 @@ returns-else-on_path-clause-ranked c =
     let old = subst (λ v. IsRanked (drop 1 c.args.tree.now.history) v.head v.rivals) (sym c.self.view_is) c.requires.ranked in
     let before : Before c.args.tree.now.history c.self.inside.head c.len-at.result (heap_items c.self.inside.rivals) =
     record { history = c.len-at.ensures.sound; some = c.requires.some; len = c.len-at.ensures.len; agreed = c.requires.agreed; ranked = old } in
-    off _ _ _ _ _ _ before c.requires.tip c.on_path.ensures c.if-on_path.false
+    off _ _ _ _ _ _ before c.requires.tip c.on_path.ensures.value c.if-on_path.false
 
 pub returns-else-on_path-clause-head : goal.returns-else-on_path-clause-head
 returns-else-on_path-clause-head c =
     let old = subst (λ v. IsRanked (drop 1 c.args.tree.now.history) v.head v.rivals) (sym c.self.view_is) c.requires.ranked in
     let before : Before c.args.tree.now.history c.self.inside.head c.len-at.result (heap_items c.self.inside.rivals) =
     record { history = c.len-at.ensures.sound; some = c.requires.some; len = c.len-at.ensures.len; agreed = c.requires.agreed; ranked = old } in
-    head_at _ _ _ (off _ _ _ _ _ _ before c.requires.tip c.on_path.ensures c.if-on_path.false)
+    head_at _ _ _ (off _ _ _ _ _ _ before c.requires.tip c.on_path.ensures.value c.if-on_path.false)

@@ -1,4 +1,0 @@
-use Rattle.fork_db.proofs.claims.claim_below.Given as goal
-
-abbrev pub ghosts-last_by : goal.ghosts-last_by
-ghosts-last_by a = record { name = a.blank.name; parts = a.blank.parts }
