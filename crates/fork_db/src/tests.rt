@@ -4,9 +4,7 @@ ghost use Rattle.std.specs.Prelude.{IfOk};
 ghost use Rattle.fork_db.specs.Batches.{WasGiven};
 
 use crate::client::{batch_at, is_ahead, place_fits};
-use crate::fixtures::{
-    At, CHAIN, FORK, Fields, SKIP, TIE, append_block, block_of, db_of, place_of,
-};
+use crate::fixtures::{At, CHAIN, FORK, Fields, SKIP, TIE, block_of, db_of, place_of};
 use crate::{Batch, ForkDb, ForkFault, StepItem, Verdict};
 use block_record::BlockRef;
 use chain_model::{Mode, Step};
@@ -39,7 +37,7 @@ const VERDICTS: &[Judged] = &[
 fn the_first_condition_that_fails_is_named(rt: HostRuntime) -> Result<(), Fail> {
     for (rows, next, wanted) in VERDICTS {
         let found = verdict_on(&rt, rt.alloc(), rows, *next)?;
-        assert!(rt; found == *wanted, "{}", next.1);
+        assert!(rt; found == *wanted);
     }
     Ok(())
 }
@@ -92,13 +90,6 @@ fn known_of(db: &ForkDb, last: usize) -> Option<(usize, usize, usize)> {
 }
 
 #[test]
-fn an_empty_database_has_no_head(rt: HostRuntime) -> Result<(), Fail> {
-    let db = ForkDb::new(rt.alloc(), 0)?;
-    assert!(rt; (db.head(), db.final_tip(), db.len()) == (None, None, 0));
-    Ok(())
-}
-
-#[test]
 fn paths_of_a_fork_meet_at_its_root(rt: HostRuntime) -> Result<(), Fail> {
     let db = db_of(&rt, rt.alloc(), FORK, 5)?;
     assert!(rt; db.len() == 5);
@@ -106,30 +97,6 @@ fn paths_of_a_fork_meet_at_its_root(rt: HostRuntime) -> Result<(), Fail> {
     assert!(rt; (db.on_path(1, 3), db.on_path(3, 1), db.on_path(4, 3)) == (true, false, false));
     assert!(rt; (db.ancestor_at(3, 2), db.ancestor_at(3, 4)) == (Some(2), None));
     assert!(rt; (db.slip(3).num, db.find(&db.slip(2).id)) == (4, Some(2)));
-    Ok(())
-}
-
-#[test]
-fn a_full_database_stays_as_it_is(rt: HostRuntime) -> Result<(), Fail> {
-    let mut db = db_of(&rt, rt.alloc(), first(CHAIN, 2), 2)?;
-    assert!(rt; db.reserve(1) == Err(ForkFault::Full { len: 2 }));
-    assert!(rt; db.reserve(0).is_ok());
-    let next = block_of(&rt, rt.alloc(), (3, "c3", 2, "b2", 2))?;
-    let refused = append_block(&rt, rt.alloc(), &mut db, next);
-    assert!(rt; refused == Err(ForkFault::Full { len: 2 }));
-    assert!(rt; known_of(&db, 1) == Some((1, 0, 0)));
-    Ok(())
-}
-
-#[test]
-fn a_released_block_keeps_its_slip(rt: HostRuntime) -> Result<(), Fail> {
-    let mut db = db_of(&rt, rt.alloc(), CHAIN, 3)?;
-    assert!(rt; db.len() == 3);
-    db.release(1);
-    assert!(rt; db.len() == 3);
-    assert!(rt; (db.held(0).is_some(), db.held(1).is_some()) == (true, false));
-    assert!(rt; db.slip(1).num == 2);
-    assert!(rt; known_of(&db, 2) == Some((2, 1, 1)));
     Ok(())
 }
 
@@ -321,7 +288,7 @@ fn a_client_begins_at_the_last_final_block_below_its_start(rt: HostRuntime) -> R
     let db = db_of(&rt, rt.alloc(), FORK, 5)?;
     for (start, at) in [(0, None), (1, None), (2, A1), (3, C2), (9, C2)] {
         let wanted = place_of(&rt, rt.alloc(), at, at)?;
-        assert!(rt; db.opening(start)? == wanted, "{start}");
+        assert!(rt; db.opening(start)? == wanted);
     }
     Ok(())
 }
