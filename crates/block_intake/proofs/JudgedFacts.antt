@@ -12,10 +12,10 @@ use Rattle.block_record.proofs.public.SlipFacts.{same_slip_is, same_slip_refl}
 use Rattle.chain_model.specs.Ancestry.{find_id, has_id, IsHistory}
 use Rattle.chain_model.specs.Finality.{root_num, claim, final_tip}
 use Rattle.block_tree.specs.Places.{slip_at, slip_of}
-use Rattle.block_tree.proofs.PlaceFacts.{slip_at_past}
+use Rattle.block_tree.proofs.public.PlaceFacts.{slip_at_past}
 use Rattle.fork_db.specs.Verdicts.{verdict_of, fits, agrees_with, agrees_next, claim_verdict, parent_verdict}
 use Rattle.fork_db.specs.declared.db.Verdict.TheVariants as forks
-use Rattle.fork_db.proofs.ClaimFacts.{root_claim, tip_there}
+use Rattle.fork_db.proofs.public.ClaimFacts.{root_claim, tip_there}
 use Rattle.fork_db.specs.Claims.{IsLinkOf}
 use Rattle.relay_model.specs.declared.answers.ConflictKind.TheVariants as kind
 use Rattle.relay_model.specs.Worlds.{World}

@@ -6,7 +6,7 @@ use Rattle.std.proofs.lemmas.Option.{same_Some}
 use Rattle.block_record.specs.declared.blocks.Block.{Block}
 use Rattle.block_record.specs.declared.blocks.Slip.{Slip}
 use Rattle.block_tree.specs.Places.{place_of}
-use Rattle.block_tree.proofs.PlaceFacts.{is_held}
+use Rattle.block_tree.proofs.public.PlaceFacts.{is_held}
 use Rattle.fork_db.specs.Batches.{HoldsWhatIs}
 use Rattle.fork_db.specs.declared.chunks.StepItem.{StepItem}
 use Rattle.block_relay.specs.Held.{HasBlock}

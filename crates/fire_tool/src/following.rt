@@ -19,11 +19,10 @@ use block_record::{Block, into_slip};
 use block_relay::{Conflict, Limits, OfferFault, Offered, Payloads, Relay};
 use chain_model::{Mode, Place};
 use fork_db::{Batch, ForkDb};
-use link_rows::Steps;
+use link_rows::Uncounted;
 use std::alloc::{AllocError, Global};
-use std::marker::{Brand, Model};
+use std::marker::Model;
 use std::mem;
-use std::sync::ledger::{Blank, Ledger};
 use step_text::{Refusal, push_line};
 
 /// The limits of a run.
@@ -128,15 +127,12 @@ impl Follower {
         if !is_admitted(answer) {
             return Ok(());
         }
-        self.tell_by::<Brand>(text, Blank::new(1))?;
+        self.tell_steps(text)?;
         Ok(())
     }
 
     /// Tells the steps from where the client stands to the head.
-    fn tell_by<L: Ledger>(&mut self, text: &mut Vec<u8>, blank: Blank) -> Result<(), AllocError>
-        requires name { blank.name ≡ L.name }
-        requires parts { blank.parts ≡ L.parts }
-        requires more { 0 < L.parts }
+    fn tell_steps(&mut self, text: &mut Vec<u8>) -> Result<(), AllocError>
         ensures world { self.new.world ≡ self.old.world }
         ensures place { OnOk result (self.new.place
             ≡ place_to self.old.world.history self.old.place mode.Live None) }
@@ -144,7 +140,7 @@ impl Follower {
             (steps_of self.old.world.history self.old.place mode.Live None))) }
     {
         let place = mem::replace(&mut self.place, nowhere());
-        self.place = tell_from::<L>(self.relay.history(), place, text, blank)?;
+        self.place = tell_from(self.relay.history(), place, text)?;
         Ok(())
     }
 }
@@ -160,22 +156,13 @@ fn nowhere() -> Place
 }
 
 /// Tells the steps from a place to the head, and gives the place that they lead to.
-fn tell_from<L: Ledger>(
-    db: &ForkDb,
-    place: Place,
-    text: &mut Vec<u8>,
-    blank: Blank,
-) -> Result<Place, AllocError>
-    requires fits { PlaceFits db.now.history place.end place.lib }
-    requires name { blank.name ≡ L.name }
-    requires parts { blank.parts ≡ L.parts }
-    requires more { 0 < L.parts }
+fn tell_from(db: &ForkDb, place: Place, text: &mut Vec<u8>) -> Result<Place, AllocError>
+    requires { PlaceFits db.now.history place.end place.lib }
     ensures place { IfOk result (λ p. p ≡ place_to db.now.history place mode.Live None) }
     ensures text { OnOk result (text.new.items ≡ text.old.items
         ++ step_lines (map plain_of (steps_of db.now.history place mode.Live None))) }
 {
-    let mut links = Steps::<L>::new(blank);
-    let batch = db.batch_from(place, Mode::Live, None, &mut links);
+    let batch = db.batch_from(place, Mode::Live, None, &mut Uncounted);
     push_steps(db, &batch, text)?;
     let place = db.place_after_all(batch)?;
     Ok(place)

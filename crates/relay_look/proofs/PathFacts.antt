@@ -6,10 +6,10 @@ use Rattle.chain_model.specs.Ancestry.{ancestry, has_id}
 use Rattle.chain_model.specs.Finality.{ancestry_of, final_tip, on_path}
 use Rattle.chain_laws.proofs.public.Lines.{has_id-ancestry}
 use Rattle.block_tree.specs.Places.{place_of, slip_at, slip_of}
-use Rattle.block_tree.proofs.PlaceFacts.{place_none, place_slip}
-use Rattle.block_tree.proofs.WalkFacts.{slip_there}
+use Rattle.block_tree.proofs.public.PlaceFacts.{place_none, place_slip}
+use Rattle.block_tree.proofs.public.WalkFacts.{slip_there}
 use Rattle.relay_model.specs.Offers.{num_of, tip_num}
-use Rattle.fork_db.proofs.BatchFacts.{slip_none}
+use Rattle.block_tree.proofs.public.PlaceFacts.{slip_none}
 
 -- an id that is not in the history is on no path
 off_line : (newest : List Slip) (o : Option Slip) (id : List ℕ) (b : Bool) → has_id newest id ≡ false → has_id (ancestry_of newest o) id ≡ b → false ≡ b

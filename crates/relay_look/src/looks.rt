@@ -16,10 +16,8 @@ use crate::paths::tip_number;
 use block_record::BlockRef;
 use chain_model::{Mode, Place};
 use fork_db::{Batch, ForkDb};
-use link_rows::Steps;
+use link_rows::Uncounted;
 use std::alloc::AllocError;
-use std::marker::Brand;
-use std::sync::ledger::{Blank, Ledger};
 use step_cursor::{Cursor, Request};
 
 /// What a client gets next that stands at the position, from a history of this run, to which blocks
@@ -132,7 +130,7 @@ fn look_from(
     if let Some(end) = stop_passed(request.stop, &place.end) {
         return Err(LookFault::StopBelow { end });
     }
-    let batch = batch_by::<Brand>(db, place, request.mode, request.stop, Blank::new(1))?;
+    let batch = batch_at(db, place, request.mode, request.stop)?;
     if is_sent(is_first, db.step_count(&batch)) {
         return Ok(Look::Batch(batch));
     }
@@ -157,23 +155,18 @@ fn stop_passed(stop: Option<u64>, end: &Option<BlockRef>) -> Option<u64>
 }
 
 /// The steps from a place, with no count of links.
-fn batch_by<L: Ledger>(
+fn batch_at(
     db: &ForkDb,
     place: &Place,
     mode: Mode,
     stop: Option<u64>,
-    blank: Blank,
 ) -> Result<Batch, AllocError>
     requires fits { PlaceFits db.now.history place.now.end place.now.lib }
     requires ahead { stop_passed_in stop place.now.end ≡ None }
-    requires name { blank.name ≡ L.name }
-    requires parts { blank.parts ≡ L.parts }
-    requires more { 0 < L.parts }
     ensures given { IfOk result (λ b. IsGiven db.now.history db.now.history mode stop b) }
     ensures place { IfOk result (λ b. b.place ≡ place.now) }
 {
-    let mut steps = Steps::<L>::new(blank);
-    let batch = db.batch(place, mode, stop, &mut steps)?;
+    let batch = db.batch(place, mode, stop, &mut Uncounted)?;
     Ok(batch)
 }
 

@@ -6,7 +6,7 @@ use Rattle.std.proofs.lemmas.List.{reverse-reverse, drop_more}
 use Rattle.std.proofs.lemmas.Option.{slice_get-get_or, slice_get-map, slice_get_read}
 use Rattle.block_record.specs.declared.blocks.Slip.{Slip}
 use Rattle.block_tree.specs.Places.{slip_at, slip_of}
-use Rattle.block_tree.proofs.PlaceFacts.{slip_at-reverse}
+use Rattle.block_tree.proofs.public.PlaceFacts.{slip_at-reverse}
 use Rattle.chain_model.specs.Ancestry.{has_id}
 use Rattle.relay_model.specs.Worlds.{lesser, next_waiting, room_bytes}
 use Rattle.wait_room.specs.declared.waiters.Waiter.{Waiter}

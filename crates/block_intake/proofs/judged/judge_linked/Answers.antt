@@ -2,7 +2,7 @@ use Rattle.std.proofs.Common.{arith, ◌≡◌, ◌<◌, Some, None, ap, sym, �
 use Rattle.block_record.specs.SlipRefs.{slip_seen}
 use Rattle.chain_model.specs.Ancestry.{find_id}
 use Rattle.chain_model.specs.Finality.{root_num}
-use Rattle.block_tree.proofs.PlaceFacts.{find_none, place_slip}
+use Rattle.block_tree.proofs.public.PlaceFacts.{find_none, place_slip}
 use Rattle.relay_model.specs.Offers.{judge_parent}
 use Rattle.block_intake.proofs.JudgedFacts.{above_root, late_root, root_first, root_link}
 use Rattle.block_intake.proofs.judged.judge_linked.Goals as goal

@@ -1,6 +1,6 @@
 use Rattle.std.proofs.Common.{arith, ◌≡◌, Err, Some, ap, sym, ◌∙◌}
 use Rattle.block_record.specs.SlipRefs.{slip_seen}
-use Rattle.block_tree.proofs.PlaceFacts.{place_range, place_slip}
+use Rattle.block_tree.proofs.public.PlaceFacts.{place_range, place_slip}
 use Rattle.fork_db.specs.Verdicts.{verdict_by, verdict_of}
 use Rattle.fork_db.specs.declared.db.Verdict.TheVariants as forks
 use Rattle.relay_model.specs.declared.answers.ConflictKind.TheVariants as kind

@@ -1,6 +1,6 @@
 use Rattle.std.proofs.Common.{◌≡◌, ◌+◌, ◌∷◌, Some, None, false, ◌<◌, is_some, ap, sym, ◌∙◌, subst}
 use Rattle.block_record.specs.declared.blocks.Slip.{Slip}
-use Rattle.block_tree.proofs.PlaceFacts.{is_held, place_slip}
+use Rattle.block_tree.proofs.public.PlaceFacts.{is_held, place_slip}
 use Rattle.block_tree.specs.Places.{place_of}
 use Rattle.chain_model.specs.Ancestry.{has_id}
 use Rattle.fork_db.specs.Claims.{IsLinkOf}

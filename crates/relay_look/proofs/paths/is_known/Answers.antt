@@ -1,5 +1,5 @@
 use Rattle.std.proofs.Common.{ap, ◌∙◌, is_some}
-use Rattle.block_tree.proofs.PlaceFacts.{is_held}
+use Rattle.block_tree.proofs.public.PlaceFacts.{is_held}
 use Rattle.relay_look.proofs.paths.is_known.Goals as goal
 
 pub returns : goal.returns

@@ -1,5 +1,5 @@
 use Rattle.std.proofs.Common.{arith, ap, sym, ◌∙◌}
-use Rattle.block_tree.proofs.PlaceFacts.{place_range}
+use Rattle.block_tree.proofs.public.PlaceFacts.{place_range}
 use Rattle.block_tree.specs.Places.{slip_of}
 use Rattle.chain_model.specs.Ancestry.{has_id}
 use Rattle.chain_model.specs.Finality.{ancestry_of}

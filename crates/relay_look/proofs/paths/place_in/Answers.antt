@@ -1,6 +1,6 @@
 use Rattle.std.proofs.Common.{ap, sym, ◌∙◌}
 use Rattle.chain_model.specs.Steps.{ancestry_at}
-use Rattle.fork_db.proofs.BatchFacts.{path_of_id}
+use Rattle.block_tree.proofs.public.PlaceFacts.{path_of_id}
 use Rattle.relay_look.proofs.paths.place_in.Goals as goal
 
 pub returns-in-Some : goal.returns-in-Some

@@ -9,7 +9,7 @@ pub returns-then-not-is_admitted-clause-text : goal.returns-then-not-is_admitted
 returns-then-not-is_admitted-clause-text c = λ said ample is. text_kept c.args.answer.now said _ _ _ (sym c.is_admitted.ensures ∙ c.if-not-is_admitted.true) ample is
 
 pub returns-clause-place : goal.returns-clause-place
-returns-clause-place c = λ said ample is. place_admitted c.args.answer.now said _ _ _ (sym c.is_admitted.ensures ∙ c.if-not-is_admitted.false) is c.in_ok-tell_by.ensures.place
+returns-clause-place c = λ said ample is. place_admitted c.args.answer.now said _ _ _ (sym c.is_admitted.ensures ∙ c.if-not-is_admitted.false) is c.in_ok-tell_steps.ensures.place
 
 pub returns-clause-text : goal.returns-clause-text
-returns-clause-text c = λ said ample is. text_admitted c.args.answer.now said _ _ _ _ (sym c.is_admitted.ensures ∙ c.if-not-is_admitted.false) is c.in_ok-tell_by.ensures.text
+returns-clause-text c = λ said ample is. text_admitted c.args.answer.now said _ _ _ _ (sym c.is_admitted.ensures ∙ c.if-not-is_admitted.false) is c.in_ok-tell_steps.ensures.text
