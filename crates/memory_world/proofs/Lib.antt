@@ -1,2 +1,2 @@
 pub mod ReadFacts
-pub mod PlaceFacts
+pub mod MapFacts

@@ -2,4 +2,4 @@ pub mod Memory
 pub mod Pieces
 pub mod Plans
 pub mod ShelfStates
-pub mod ShelfPlans
+pub mod Guards

@@ -2,23 +2,21 @@
 //! says or after some calls.
 #![tactic(auto)]
 
-mod failing_shelf;
-mod failing_sink;
-mod failing_source;
 mod fuse;
+mod guarded;
+mod guarded_shelf;
 mod memory;
 mod memory_shelf;
 mod pieces;
 mod plans;
 mod stored_files;
 
-pub use failing_shelf::FailingShelf;
-pub use failing_sink::FailingSink;
-pub use failing_source::FailingSource;
-pub use fuse::Fuse;
+pub use fuse::{Fuse, FuseWire};
+pub use guarded::{Guard, Guarded};
 pub use memory::{MemorySink, MemorySource};
 pub use memory_shelf::MemoryShelf;
 pub use pieces::PiecesSource;
+pub use plans::{FailingShelf, FailingSink, FailingSource, FaultPlan};
 
 #[cfg(test)]
 mod shelf_tests;

@@ -5,30 +5,30 @@ ghost use Rattle.std.specs.Option.{option_copied};
 ghost use Rattle.outer_world.specs.Files.{file_at};
 ghost use Rattle.memory_world.specs.ShelfStates.{bare_shelf};
 
-use crate::stored_files::{FileText, copy_from, names_in, put_file, take_away, text_of};
+use crate::stored_files::{FileMap, FileText, copy_from, names_in, put_file, take_away, text_of};
 use outer_world::{FileName, Shelf, ShelfFail};
 use std::alloc::Global;
 use std::marker::Model;
 use std::mem;
 
-/// A shelf in memory. It never fails, and tells its files and what is staged.
+/// A shelf in memory. It never fails, and tells its files and what is staged. A file is found, put in
+/// place or taken away in a number of comparisons that grows as the logarithm of the number of files.
 #[derive(Drop)]
 pub struct MemoryShelf {
     alloc: Global,
-    files: Vec<(FileName, FileText)>,
+    files: FileMap,
     staged: FileText,
 }
 
 impl Model for MemoryShelf {
-    ghost use Rattle.std.specs.Prelude.{map};
-    ghost use Rattle.outer_world.specs.Files.{AreInOrder};
+    ghost use Rattle.outer_world.specs.Files.{AreInOrder, names_of};
     ghost use Rattle.memory_world.specs.ShelfStates.{ShelfState};
 
     ghost Value = { ShelfState };
 
-    ghost view = { λ s. record { files = s.files.items; staged = s.staged } };
+    ghost view = { λ s. record { files = s.files.entries; staged = s.staged } };
 
-    ghost invariant = { λ s. AreInOrder (map (λ file. file.0) s.files.items) };
+    ghost invariant = { λ s. AreInOrder (names_of s.files.entries) };
 }
 
 impl MemoryShelf {
@@ -38,7 +38,7 @@ impl MemoryShelf {
     {
         MemoryShelf {
             alloc,
-            files: Vec::new(alloc),
+            files: FileMap::new(alloc),
             staged: FileText::empty(alloc),
         }
     }

@@ -48,7 +48,7 @@ fn the_names_of_a_folder_are_listed_in_order(rt: HostRuntime) -> Result<(), Fail
     let mut shelf = shelf_of(alloc, &FILES)?;
     for (folder, names) in LISTINGS {
         let listed = listing(alloc, &mut shelf, folder)?;
-        assert!(rt; listed.as_slice() == names, "in {folder}");
+        assert!(rt; listed.as_slice() == names);
     }
     Ok(())
 }
@@ -88,7 +88,7 @@ fn a_file_is_read_from_a_place_on(rt: HostRuntime) -> Result<(), Fail> {
     let mut shelf = shelf_of(alloc, &FILES)?;
     for (name, at, room, wanted) in PARTS {
         let given = part(alloc, &mut shelf, name, at, room)?;
-        assert!(rt; given.as_slice() == wanted, "{room} bytes from {at} on");
+        assert!(rt; given.as_slice() == wanted);
     }
     Ok(())
 }
@@ -125,7 +125,7 @@ fn a_commit_empties_the_stage(rt: HostRuntime) -> Result<(), Fail> {
     shelf.remove(&FileName::new(alloc, b"one/d")?)?;
     for (name, text) in [("one/a", None), ("one/b", Some("abc")), ("one/e", Some(""))] {
         let held = holds(alloc, &mut shelf, name.as_bytes(), text.map(str::as_bytes))?;
-        assert!(rt; held, "at {name}");
+        assert!(rt; held);
     }
     Ok(())
 }
@@ -140,6 +140,43 @@ fn a_shelf_fails_by_its_list(rt: HostRuntime) -> Result<(), Fail> {
     assert!(rt; shelf.remove(&name) == Err(ShelfFail::Failed));
     assert!(rt; holds(alloc, &mut shelf, b"one/a", Some(b"abcde"))?);
     assert!(rt; shelf.faults() == 2);
+    Ok(())
+}
+
+// What each of four calls of a fuse for two gives, where the second fails inside, and how many have
+// failed inside and by the fuse.
+const CALLS: [(Result<(), ShelfFail>, u64, u64); 4] = [
+    (Ok(()), 0, 0),
+    (Err(ShelfFail::Failed), 1, 0),
+    (Err(ShelfFail::Failed), 1, 1),
+    (Err(ShelfFail::Failed), 1, 2),
+];
+
+// One call of a shelf, of the kind with this number.
+fn call<S: Shelf>(alloc: Global, shelf: &mut S, kind: u64) -> Result<(), ShelfFail> {
+    let name = FileName::new(alloc, b"one/a")?;
+    match kind {
+        0 => shelf.list(alloc, "one", &mut Vec::new(alloc)),
+        1 => shelf.size(&name).map(|_| ()),
+        2 => shelf.read_at(&name, 0, &mut [0; 2]).map(|_| ()),
+        3 => shelf.stage(b"x"),
+        4 => shelf.commit(&name),
+        _ => shelf.remove(&name),
+    }
+}
+
+#[test]
+fn a_call_that_passes_is_one_call_inside(rt: HostRuntime) -> Result<(), Fail> {
+    let alloc = rt.alloc();
+    for kind in 0..6 {
+        let fails = Vec::from_slice(alloc, &[1])?;
+        let inner = FailingShelf::new(shelf_of(alloc, &FILES)?, fails);
+        let mut fuse = Fuse::new(inner, 2);
+        for (answer, inside, burnt) in CALLS {
+            assert!(rt; call(alloc, &mut fuse, kind) == answer);
+            assert_eq!(rt; (fuse.inner().faults(), fuse.faults()), (inside, burnt));
+        }
+    }
     Ok(())
 }
 
@@ -166,7 +203,7 @@ const STOPS: [(u64, &[u8]); 6] = [
 fn a_stop_leaves_the_old_file_or_the_new_one(rt: HostRuntime) -> Result<(), Fail> {
     for (calls, wanted) in STOPS {
         let text = stopped(rt.alloc(), calls)?.ok_or("the file is gone")?;
-        assert!(rt; text.as_slice() == wanted, "after {calls} calls");
+        assert!(rt; text.as_slice() == wanted);
     }
     Ok(())
 }

@@ -1,13 +1,13 @@
-//! Files kept in a list, in the order of their names.
+//! Files kept in a map, in the order of their names.
 
-ghost use Rattle.std.specs.Prelude.{◌≡◌, ◌≤◌, [], ◌∷◌, ◌++◌, if◌then◌else◌, is_ok, IfOk, IfErr, OnOk, length, drop, min};
+ghost use Rattle.std.specs.Prelude.{◌≡◌, [], ◌∷◌, ◌++◌, if◌then◌else◌, is_ok, IfOk, IfErr, OnOk, length, drop, min};
 ghost use Rattle.std.specs.Option.{option_copied};
-ghost use Rattle.outer_world.specs.Files.{file_at, is_in, names_in, with_file, without_file};
+ghost use Rattle.outer_world.specs.Files.{AreInOrder, file_at, is_in, names_in, names_of, with_file, without_file};
 ghost use Rattle.outer_world.specs.Shelves.{ReadsText};
-ghost use Rattle.memory_world.specs.ShelfStates.{is_at, place_of};
 
 use outer_world::FileName;
 use std::alloc::{AllocError, Global};
+use std::collections::BTreeMap;
 use std::marker::Model;
 
 /// The bytes of a file. Contracts see them as a list.
@@ -48,25 +48,22 @@ impl FileText {
     }
 }
 
+/// Files by their names.
+pub type FileMap = BTreeMap<FileName, FileText>;
+
 /// The bytes of the file of this name.
-pub fn text_of<'a>(files: &'a [(FileName, FileText)], name: &FileName) -> Option<&'a [u8]>
-    ensures { option_copied result ≡ file_at name.now files.now }
+pub fn text_of<'a>(files: &'a FileMap, name: &FileName) -> Option<&'a [u8]>
+    ensures { option_copied result ≡ file_at name.now files.now.entries }
 {
-    for (held, text) in files {
-        if held == name {
-            return Some(text.as_slice());
-        }
+    match files.get(name) {
+        Some(text) => Some(text.as_slice()),
+        None => None,
     }
-    None
 }
 
 /// Copies the names of a folder's files.
-pub fn names_in(
-    alloc: Global,
-    files: &[(FileName, FileText)],
-    folder: &str,
-) -> Result<Vec<FileName>, AllocError>
-    ensures { IfOk result (λ names. names.items ≡ names_in folder.now files.now) }
+pub fn names_in(alloc: Global, files: &FileMap, folder: &str) -> Result<Vec<FileName>, AllocError>
+    ensures { IfOk result (λ names. names.items ≡ names_in folder.now files.now.entries) }
 {
     let mut names = Vec::new(alloc);
     for (name, _) in files {
@@ -97,44 +94,13 @@ pub fn copy_from(text: &[u8], at: u64, buf: &mut [u8]) -> usize
     count
 }
 
-/// How many files come before this name.
-fn place_of(files: &[(FileName, FileText)], name: &FileName) -> usize
-    ensures { result ≡ place_of name.now files.now }
-{
-    for (at, (held, _)) in files.iter().enumerate() {
-        if held >= name {
-            return at;
-        }
-    }
-    files.len()
-}
-
-/// Whether the file at this place has this name.
-fn is_at(files: &[(FileName, FileText)], at: usize, name: &FileName) -> bool
-    ensures { result ≡ is_at name.now at files.now }
-{
-    match files.get(at) {
-        Some((held, _)) => held == name,
-        None => false,
-    }
-}
-
 /// Puts a file in place. Where there is no memory it gives the text back.
-pub fn put_file(
-    files: &mut Vec<(FileName, FileText)>,
-    name: FileName,
-    text: FileText,
-) -> Result<(), FileText>
-    ensures put { OnOk result (files.new.items ≡ with_file name text files.old.items) }
-    ensures kept { IfErr result (λ left. (left ≡ text) × (files.new.items ≡ files.old.items)) }
+pub fn put_file(files: &mut FileMap, name: FileName, text: FileText) -> Result<(), FileText>
+    ensures put { OnOk result (files.new.entries ≡ with_file name text files.old.entries) }
+    ensures kept { IfErr result (λ left. (left ≡ text) × (files.new.entries ≡ files.old.entries)) }
 {
-    let at = place_of(files, &name);
-    if is_at(files, at, &name) {
-        files[at].1 = text;
-        return Ok(());
-    }
-    match files.insert(at, (name, text)) {
-        Ok(()) => Ok(()),
+    match files.insert(name, text) {
+        Ok(_) => Ok(()),
         Err(failed) => {
             let (_, text) = failed.value;
             Err(text)
@@ -143,8 +109,9 @@ pub fn put_file(
 }
 
 /// Takes a file away.
-pub fn take_away(files: &mut Vec<(FileName, FileText)>, name: &FileName)
-    ensures { files.new.items ≡ without_file name.now files.old.items }
+pub fn take_away(files: &mut FileMap, name: &FileName)
+    requires { AreInOrder (names_of files.old.entries) }
+    ensures { files.new.entries ≡ without_file name.now files.old.entries }
 {
-    files.retain(|file| file.0 != *name);
+    let _ = files.remove(name);
 }

@@ -50,10 +50,10 @@ fn a_source_is_cut_and_fails_by_its_lists(rt: HostRuntime) -> Result<(), Fail> {
         );
         let mut source = FailingSource::new(pieces, Vec::from_slice(alloc, fails)?);
         let (text, reads) = read_on(alloc, &mut source)?;
-        assert!(rt; text.as_slice() == b"abcde".as_slice(), "at {wanted:?}");
-        assert!(rt; reads.as_slice() == wanted, "at {wanted:?}");
+        assert!(rt; text.as_slice() == b"abcde".as_slice());
+        assert!(rt; reads.as_slice() == wanted);
         let failed = wanted.iter().filter(|read| read.is_none()).count();
-        assert_eq!(rt; source.faults(), failed as u64, "at {wanted:?}");
+        assert_eq!(rt; source.faults(), failed as u64);
     }
     Ok(())
 }
@@ -82,9 +82,9 @@ fn a_sink_fails_by_its_list_and_tells_up_to_its_room(rt: HostRuntime) -> Result<
                 }
             }
         }
-        assert_eq!(rt; sink.faults(), fails.len() as u64, "at {fails:?}");
-        assert!(rt; sink.inner().written() == written, "at {fails:?}");
-        assert_eq!(rt; sink.into_inner().write(b"f"), Ok(1), "at {fails:?}");
+        assert_eq!(rt; sink.faults(), fails.len() as u64);
+        assert!(rt; sink.inner().written() == written);
+        assert_eq!(rt; sink.into_inner().write(b"f"), Ok(1));
     }
     Ok(())
 }

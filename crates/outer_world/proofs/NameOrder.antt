@@ -6,7 +6,7 @@ use Rattle.std.specs.declared.cmp.Ordering.TheVariants as order
 use Rattle.std.specs.Cmp.Lexicographic.{slice_cmp, texts_ties, same_text, nat_list_cmp_total}
 use Rattle.std.specs.List.{filter, AllByRecursion}
 use Rattle.std.specs.Str.{bytes_eq}
-use Rattle.outer_world.specs.Files.{Files, AreInOrder, comes_before, without_file, put_before, with_file}
+use Rattle.outer_world.specs.Files.{Files, AreInOrder, comes_before, names_of, without_file, put_before, with_file}
 
 is_less : (r : Ordering) → is_lt r ≡ true → r ≡ order.Less
 is_less order.Less h = refl
@@ -52,9 +52,6 @@ in_order_filter p (name ∷ names) h =
       | true ↦ (all_filter (λ later. IsTrue (comes_before name later)) p names h.0, in_order_filter p names h.1)
       | false ↦ in_order_filter p names h.1
     ]
-
-abbrev pub names_of : Files → List (List ℕ)
-names_of files = map (λ file. file.0) files
 
 -- the names without one
 pub names-without_file : (name : List ℕ) (files : Files) → names_of (without_file name files) ≡ filter (λ held. not (bytes_eq held name)) (names_of files)

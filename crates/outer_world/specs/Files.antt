@@ -18,6 +18,10 @@ abbrev pub AreInOrder : List (List ℕ) → Type 0
 AreInOrder [] = ⊤
 AreInOrder (name ∷ names) = AllByRecursion (λ later. IsTrue (comes_before name later)) names × AreInOrder names
 
+-- the names of the files
+abbrev pub names_of : Files → List (List ℕ)
+names_of files = map (λ file. file.0) files
+
 -- the bytes of the file of this name
 abbrev pub file_at : List ℕ → Files → Option (List ℕ)
 file_at name [] = None
@@ -48,4 +52,4 @@ is_in folder name = bytes_eq (take (length folder) name) folder && is_last_part 
 
 -- the names of a folder
 abbrev pub names_in : List ℕ → Files → List (List ℕ)
-names_in folder files = filter (is_in folder) (map (λ file. file.0) files)
+names_in folder files = filter (is_in folder) (names_of files)

@@ -1,74 +1,20 @@
-//! A shelf that fails at the calls of a list.
+//! A shelf round another one, of which some calls fail. Each call but `unstage` is one of the guard.
 
 ghost use Rattle.std.specs.Prelude.{◌≡◌, ◌≤◌, IfErr, IfOk, OnErr, OnOk};
 ghost use Rattle.std.specs.Io.{ReadsAtMost};
 ghost use Rattle.outer_world.specs.Shelves.{CommitRefused, Commits, HasShelfCause, HasSize, Lists, ReadsFile, RemoveRefused, StagesFront, emptied, told_without, with_piece};
-ghost use Rattle.memory_world.specs.Plans.{all_faults, failing};
-ghost use Rattle.memory_world.specs.ShelfPlans.{IsPlanned};
+ghost use Rattle.memory_world.specs.Guards.{IsGuarded, all_faults};
 
-use crate::plans::FaultPlan;
+use crate::guarded::{Guard, Guarded};
 use outer_world::{FileName, Shelf, ShelfFail};
 use std::alloc::Global;
-use std::marker::Model;
 
-/// A shelf that fails at the calls of a list, and else calls the shelf inside.
-#[derive(Drop)]
-pub struct FailingShelf<S: Shelf> {
-    inner: S,
-    plan: FaultPlan,
-}
-
-impl<S: Shelf> Model for FailingShelf<S> {
-    ghost use Rattle.memory_world.specs.Plans.{Failing, failing_code};
-
-    ghost Value = { Failing S };
-
-    ghost coded = { failing_code S.code };
-
-    ghost view = { λ s. record { inner = s.inner; plan = s.plan } };
-}
-
-impl<S: Shelf> FailingShelf<S> {
-    /// A shelf round this one, whose calls with these numbers, counted from 0, fail. Each call but
-    /// `unstage` is counted.
-    pub fn new(inner: S, fails: Vec<u64>) -> Self
-        ensures { result ≡ failing inner fails.items }
-    {
-        FailingShelf {
-            inner,
-            plan: FaultPlan::new(fails),
-        }
-    }
-
-    /// The shelf inside.
-    pub fn inner(&self) -> &S
-        ensures { result.now ≡ self.now.inner }
-    {
-        &self.inner
-    }
-
-    /// The shelf inside, given back.
-    pub fn into_inner(self) -> S
-        ensures { result ≡ self.inner }
-    {
-        let FailingShelf { inner, plan: _ } = self;
-        inner
-    }
-
-    /// How many calls have failed by the list.
-    pub fn faults(&self) -> u64
-        ensures { result ≡ self.now.plan.faults }
-    {
-        self.plan.faults()
-    }
-}
-
-impl<S: Shelf> Shelf for FailingShelf<S> {
+impl<S: Shelf, G: Guard> Shelf for Guarded<S, G> {
     ghost files = { λ s. S.files s.inner };
 
     ghost staged = { λ s. S.staged s.inner };
 
-    ghost shelf_faults = { all_faults S.shelf_faults };
+    ghost shelf_faults = { all_faults S.shelf_faults G.failed };
 
     fn list(
         &mut self,
@@ -81,10 +27,10 @@ impl<S: Shelf> Shelf for FailingShelf<S> {
         ensures unlisted { OnErr result (out.new.items ≡ out.old.items) }
         ensures files { S.files self.new.inner ≡ S.files self.old.inner }
         ensures staged { S.staged self.new.inner ≡ S.staged self.old.inner }
-        ensures cause { HasShelfCause (all_faults S.shelf_faults self.old) (all_faults S.shelf_faults self.new) result }
-        ensures call { IsPlanned S.shelf_faults self.old self.new result }
+        ensures cause { HasShelfCause (all_faults S.shelf_faults G.failed self.old) (all_faults S.shelf_faults G.failed self.new) result }
+        ensures call { IsGuarded G.fails G.after S.shelf_faults self.old self.new result }
     {
-        if self.plan.next_fails() {
+        if self.guard.next_fails() {
             return Err(ShelfFail::Failed);
         }
         self.inner.list(alloc, folder, out)
@@ -94,10 +40,10 @@ impl<S: Shelf> Shelf for FailingShelf<S> {
         ensures size { IfOk result (HasSize (S.files self.old.inner) name.now) }
         ensures files { S.files self.new.inner ≡ S.files self.old.inner }
         ensures staged { S.staged self.new.inner ≡ S.staged self.old.inner }
-        ensures cause { HasShelfCause (all_faults S.shelf_faults self.old) (all_faults S.shelf_faults self.new) result }
-        ensures call { IsPlanned S.shelf_faults self.old self.new result }
+        ensures cause { HasShelfCause (all_faults S.shelf_faults G.failed self.old) (all_faults S.shelf_faults G.failed self.new) result }
+        ensures call { IsGuarded G.fails G.after S.shelf_faults self.old self.new result }
     {
-        if self.plan.next_fails() {
+        if self.guard.next_fails() {
             return Err(ShelfFail::Failed);
         }
         self.inner.size(name)
@@ -109,10 +55,10 @@ impl<S: Shelf> Shelf for FailingShelf<S> {
             (S.files self.old.inner) name.now at count buf.new) }
         ensures files { S.files self.new.inner ≡ S.files self.old.inner }
         ensures staged { S.staged self.new.inner ≡ S.staged self.old.inner }
-        ensures cause { HasShelfCause (all_faults S.shelf_faults self.old) (all_faults S.shelf_faults self.new) result }
-        ensures call { IsPlanned S.shelf_faults self.old self.new result }
+        ensures cause { HasShelfCause (all_faults S.shelf_faults G.failed self.old) (all_faults S.shelf_faults G.failed self.new) result }
+        ensures call { IsGuarded G.fails G.after S.shelf_faults self.old self.new result }
     {
-        if self.plan.next_fails() {
+        if self.guard.next_fails() {
             return Err(ShelfFail::Failed);
         }
         self.inner.read_at(name, at, buf)
@@ -124,10 +70,10 @@ impl<S: Shelf> Shelf for FailingShelf<S> {
         ensures front { OnErr result (StagesFront
             (S.staged self.old.inner) (S.staged self.new.inner) piece.now) }
         ensures files { S.files self.new.inner ≡ S.files self.old.inner }
-        ensures cause { HasShelfCause (all_faults S.shelf_faults self.old) (all_faults S.shelf_faults self.new) result }
-        ensures call { IsPlanned S.shelf_faults self.old self.new result }
+        ensures cause { HasShelfCause (all_faults S.shelf_faults G.failed self.old) (all_faults S.shelf_faults G.failed self.new) result }
+        ensures call { IsGuarded G.fails G.after S.shelf_faults self.old self.new result }
     {
-        if self.plan.next_fails() {
+        if self.guard.next_fails() {
             return Err(ShelfFail::Failed);
         }
         self.inner.stage(piece)
@@ -136,10 +82,10 @@ impl<S: Shelf> Shelf for FailingShelf<S> {
     fn unstage(&mut self)
         ensures staged { S.staged self.new.inner ≡ emptied (S.staged self.old.inner) }
         ensures files { S.files self.new.inner ≡ S.files self.old.inner }
-        ensures later { all_faults S.shelf_faults self.old ≤ all_faults S.shelf_faults self.new }
+        ensures later { all_faults S.shelf_faults G.failed self.old ≤ all_faults S.shelf_faults G.failed self.new }
 
         // It can not fail, and is not counted as a call.
-        ensures plan { self.new.plan ≡ self.old.plan }
+        ensures guard { self.new.guard ≡ self.old.guard }
     {
         self.inner.unstage();
     }
@@ -152,10 +98,10 @@ impl<S: Shelf> Shelf for FailingShelf<S> {
         ensures refused { IfErr result (λ fail. CommitRefused fail
             (S.files self.old.inner) (S.staged self.old.inner) name.now
             (S.files self.new.inner) (S.staged self.new.inner)) }
-        ensures cause { HasShelfCause (all_faults S.shelf_faults self.old) (all_faults S.shelf_faults self.new) result }
-        ensures call { IsPlanned S.shelf_faults self.old self.new result }
+        ensures cause { HasShelfCause (all_faults S.shelf_faults G.failed self.old) (all_faults S.shelf_faults G.failed self.new) result }
+        ensures call { IsGuarded G.fails G.after S.shelf_faults self.old self.new result }
     {
-        if self.plan.next_fails() {
+        if self.guard.next_fails() {
             return Err(ShelfFail::Failed);
         }
         self.inner.commit(name)
@@ -167,10 +113,10 @@ impl<S: Shelf> Shelf for FailingShelf<S> {
         ensures refused { IfErr result (λ fail. RemoveRefused fail name.now
             (S.files self.old.inner) (S.files self.new.inner)) }
         ensures staged { S.staged self.new.inner ≡ S.staged self.old.inner }
-        ensures cause { HasShelfCause (all_faults S.shelf_faults self.old) (all_faults S.shelf_faults self.new) result }
-        ensures call { IsPlanned S.shelf_faults self.old self.new result }
+        ensures cause { HasShelfCause (all_faults S.shelf_faults G.failed self.old) (all_faults S.shelf_faults G.failed self.new) result }
+        ensures call { IsGuarded G.fails G.after S.shelf_faults self.old self.new result }
     {
-        if self.plan.next_fails() {
+        if self.guard.next_fails() {
             return Err(ShelfFail::Failed);
         }
         self.inner.remove(name)
