@@ -6,16 +6,16 @@ use Rattle.std.specs.List.{position, position_or_len, flat_map, zip}
 use Rattle.block_record.specs.Texts.{is_type_text}
 use Rattle.std.specs.Int.{w16, w32, to_be_bytes}
 use Rattle.std.proofs.lemmas.Bool.{le-ltb, ltb-false, eqb-true, cases_lt}
-use Rattle.std.proofs.lemmas.List.{append-nil, take-append-drop, drop-drop, get_or-drop, get_or-take, get_or_past}
+use Rattle.std.proofs.lemmas.List.{append-nil, nil_from_length, take-append-drop, drop-drop, get_or-drop, get_or-take, get_or_past}
 use Rattle.std.proofs.lemmas.List.Concat.{flat_map-cons}
 use Rattle.std.proofs.lemmas.Nat.{be_bytes_2, be_bytes_4}
 use Rattle.dbin_file.specs.declared.faults.DbinFault.{DbinFault}
-use Rattle.dbin_file.specs.declared.faults.DbinFault.TheVariants.{NotDbin, BadVersion}
-use Rattle.dbin_file.specs.Header.{header_text, type_length, type_bytes, mark_fault, version_fault, length_fault, type_fault, header_fault, header_size, is_other}
+use Rattle.dbin_file.specs.declared.faults.DbinFault.TheVariants.{NotDbin, BadVersion, Truncated}
+use Rattle.dbin_file.specs.Header.{header_text, type_length, type_bytes, mark_fault, version_fault, length_fault, type_fault, header_fault, header_size, is_other, first_of}
 use Rattle.dbin_file.specs.Messages.{AreMessages, message_max, message_text, message_length, has_message, first_message, Split, onto, split_after, split}
-use Rattle.dbin_file.specs.Contents.{Contents, contents, container_text, with_messages}
-use Rattle.dbin_file.specs.Reader.{ReaderState}
-use Rattle.dbin_file.specs.Laws.{IsBytes, IsSpelled, ReadIsSpelled}
+use Rattle.dbin_file.specs.Contents.{Contents, contents, container_text, with_messages, place}
+use Rattle.dbin_file.specs.Reader.{ReaderState, kept, cut_fault}
+use Rattle.dbin_file.specs.Laws.{IsBytes, IsSpelled, ReadIsSpelled, IsContainer, WholeIsContainer}
 use Rattle.dbin_file.proofs.MessageFacts.{has}
 use Rattle.dbin_file.proofs.HeaderFacts.{Whole, whole, typed, is_whole, is_cut, is_bad, first_none}
 
@@ -177,3 +177,30 @@ read_spelled text block_type is named = by_fault (header_fault text) refl
     by_fault : (o : Option DbinFault) → header_fault text ≡ o → IsSpelled text block_type
     by_fault None e = by_size e (header_size text) refl
     by_fault (Some f) e = absurd (let none = (is_bad text f e).state_is in let clash = sym (ap (λ (r : ReaderState). r.block_type) none) ∙ named in cc)
+
+nothing_left : (at : ℕ) (partial : List ℕ) → cond (eqb (length partial) 0) None (Some (Truncated at)) ≡ None → partial ≡ []
+nothing_left at partial none = by_test (eqb (length partial) 0) refl none
+  where
+    by_test : (t : Bool) → eqb (length partial) 0 ≡ t → cond t None (Some (Truncated at)) ≡ None → partial ≡ []
+    by_test true e none = nil_from_length partial (eqb-true (length partial) 0 e)
+    by_test false e none = absurd cc
+
+pub whole_container : WholeIsContainer
+whole_container text is none =
+    by_type (contents text).block_type refl (first_none (cut_fault (contents text).block_type (place (length text) (contents text).rest) (kept (contents text).fault (contents text).rest)) [] fine.1).0
+  where
+    fine : ((contents text).fault ≡ None) × (first_of (cut_fault (contents text).block_type (place (length text) (contents text).rest) (kept (contents text).fault (contents text).rest) ∷ []) ≡ None)
+    fine = first_none (contents text).fault (cut_fault (contents text).block_type (place (length text) (contents text).rest) (kept (contents text).fault (contents text).rest) ∷ []) none
+
+    by_type : (o : Option (List ℕ)) → (contents text).block_type ≡ o → cut_fault o (place (length text) (contents text).rest) (kept (contents text).fault (contents text).rest) ≡ None → IsContainer text
+    by_type None named e = absurd cc
+    by_type (Some t) named e =
+        let s = read_spelled text t is named in
+        let empty : (contents text).rest ≡ [] = ap (λ (f : Option DbinFault). kept f (contents text).rest) (sym fine.0) ∙ nothing_left (place (length text) (contents text).rest) (kept (contents text).fault (contents text).rest) e in
+        record {
+          block_type = t;
+          type_is = named;
+          named = s.named;
+          small = s.small;
+          text_is = s.text_is ∙ ap (λ (l : List ℕ). container_text t (contents text).messages ++ l) empty ∙ append-nil (container_text t (contents text).messages);
+        }

@@ -9,7 +9,7 @@ mod reader;
 
 pub use faults::DbinFault;
 pub use headers::header;
-pub use laws::{container_is_read, read_is_spelled};
+pub use laws::{container_is_read, read_is_spelled, whole_is_container};
 pub use messages::{MESSAGE_BYTES_MAX, message};
 pub use reader::DbinReader;
 
