@@ -17,7 +17,8 @@ use Rattle.fire_tool.specs.declared.steps.StepsStop.TheVariants.{Mem, Read, Writ
 use Rattle.step_text.specs.Limits.{line_max, new_world}
 use Rattle.step_text.specs.StepText.{StepText, whole, text_of, tell, step_text}
 use Rattle.fire_tool.specs.ErrorLines.{ending_line, ending_status, IsEndStatus}
-use Rattle.fire_tool.specs.Runs.{Flow, IsAnswer, flow, TookInput, Answered, RanOut, ReadFailed, TookTooMuch, Stopped}
+use Rattle.fire_tool.specs.Runs.{IsAnswer, EndsInPiece, Answered, RanOut, ReadFailed, TookTooMuch, Stopped}
+use Rattle.fire_tool.specs.Streams.{Flow, SinkState, SourceState, TookInput}
 use Rattle.fire_tool.specs.Telling.{IsUnderWay, IsEnded, ending_seen}
 use Rattle.fire_tool.specs.Pieces.{PieceTaken}
 use Rattle.fire_lines.specs.Text.{received}
@@ -39,11 +40,11 @@ text_after first input told reader world place None h = ap (λ x. x.text) (text_
 text_after first input told reader world place (Some e) h = ap (λ x. x.text) h.text
 
 -- the text of a piece was written
-pub piece_written : (first : ℕ) (input told text : List ℕ) (start between written : Option (List ℕ)) (before after : ℕ) (reader : ReaderState) (world : World) (place : Place) (end : Option RunEnd)
+pub piece_written : (first : ℕ) (input told text : List ℕ) (start : Option (List ℕ)) (before after : SinkState) (reader : ReaderState) (world : World) (place : Place) (end : Option RunEnd)
     → MatchOption end (IsUnderWay first input (told ++ text) reader world place) (λ e. IsEnded first input (told ++ text) (ending_seen e))
-    → Grows start between told → Grows between written text → PieceTaken first input start written before after reader world place (Ok end)
-piece_written first input told text start between written before after reader world place None h g k = (told ++ text, h, grows_twice start between written told text g k)
-piece_written first input told text start between written before after reader world place (Some e) h g k = (told ++ text, h, grows_twice start between written told text g k)
+    → Grows start before.written told → Grows before.written after.written text → PieceTaken first input start before after reader world place (Ok end)
+piece_written first input told text start before after reader world place None h g k = (told ++ text, h, grows_twice start before.written after.written told text g k)
+piece_written first input told text start before after reader world place (Some e) h g k = (told ++ text, h, grows_twice start before.written after.written told text g k)
 
 -- a front of it was written
 pub piece_begun : (first : ℕ) (input told text : List ℕ) (start between written : Option (List ℕ)) (reader : ReaderState) (world : World) (place : Place) (end : Option RunEnd)
@@ -59,10 +60,10 @@ pub record IsFlowing (first : ℕ) (before after : Flow) (reader : ReaderState) 
   pub told : List ℕ
   pub took : TookInput before after input
   pub under_way : IsUnderWay first input told reader world place
-  pub wrote : Grows before.written after.written told
+  pub wrote : Grows before.output.written after.output.written told
   pub counted : length input ≡ count
-  pub reads : before.read_faults ≤ after.read_faults
-  pub writes : before.write_faults ≤ after.write_faults
+  pub reads : before.input.faults ≤ after.input.faults
+  pub writes : before.output.faults ≤ after.output.faults
 
 consumes_none : (a : Option (List ℕ)) → Consumes a a []
 consumes_none None = tt
@@ -77,29 +78,44 @@ pub flows_first : (first : ℕ) (before : Flow) (reader : ReaderState) (world : 
 flows_first first before reader world place u = record {
   input = [];
   told = [];
-  took = record { first = consumes_none before.left; last = gains_none before.given };
+  took = record { first = consumes_none before.input.left; last = gains_none before.input.given };
   under_way = u;
-  wrote = grows_none before.written;
+  wrote = grows_none before.output.written;
   counted = refl;
   reads = omega arith;
   writes = omega arith;
 }
 
+-- no input ends no run
+nothing_ends : (first : ℕ) → EndsInPiece first []
+nothing_ends first = record { front = []; piece = []; input_is = refl; size = omega arith; goes_on = refl }
+
 -- there was no memory to begin with
 pub ran_out_first : (first : ℕ) (before : Flow) → RanOut first before before
 ran_out_first first before = record {
   input = [];
-  took = record { first = consumes_none before.left; last = gains_none before.given };
-  text = ([], ((step_text first []).text, refl), grows_none before.written);
+  took = record { first = consumes_none before.input.left; last = gains_none before.input.given };
+  last = nothing_ends first;
+  text = ([], ((step_text first []).text, refl), grows_none before.output.written);
+}
+
+-- a run under way that takes a piece
+pub ends_in : (first : ℕ) (input told piece : List ℕ) (reader : ReaderState) (world : World) (place : Place) → IsUnderWay first input told reader world place → length piece ≤ 65_536 → EndsInPiece first (input ++ piece)
+ends_in first input told piece reader world place u size = record {
+  front = input;
+  piece = piece;
+  input_is = refl;
+  size = size;
+  goes_on = ap (λ x. x.ending) (text_under_way first input told reader world place u);
 }
 
 -- a piece more
-pub flows_on : (first : ℕ) (before mid : Flow) (left given written : Option (List ℕ)) (read_faults write_faults : ℕ) (reader new : ReaderState) (world later : World) (place to : Place) (count n : ℕ) (piece : List ℕ)
+pub flows_on : (first : ℕ) (before mid after : Flow) (reader new : ReaderState) (world later : World) (place to : Place) (count n : ℕ) (piece : List ℕ)
     (i : IsFlowing first before mid reader world place count)
-    → Consumes mid.left left piece → Gains mid.given given piece → mid.read_faults ≤ read_faults → mid.write_faults ≤ write_faults → length piece ≡ n
-    → PieceTaken first (i.input ++ piece) before.written written mid.write_faults write_faults new later to (Ok None)
-    → IsFlowing first before (flow left given read_faults written write_faults) new later to (count + n)
-flows_on first before mid left given written read_faults write_faults reader new world later place to count n piece i begun last reads writes size taken = record {
+    → Consumes mid.input.left after.input.left piece → Gains mid.input.given after.input.given piece → mid.input.faults ≤ after.input.faults → mid.output.faults ≤ after.output.faults → length piece ≡ n
+    → PieceTaken first (i.input ++ piece) before.output.written mid.output after.output new later to (Ok None)
+    → IsFlowing first before after new later to (count + n)
+flows_on first before mid after reader new world later place to count n piece i begun last reads writes size taken = record {
   input = i.input ++ piece;
   told = taken.0;
   took = took_more _ _ _ _ _ _ i.input piece i.took begun last;
@@ -120,38 +136,40 @@ consumes_kept (Some x) (Some y) None xs h k = absurd k
 consumes_kept (Some x) (Some y) (Some z) xs h k = h ∙ ap (λ l. xs ++ l) (sym k)
 
 -- the input ended
-pub ends_whole : (first : ℕ) (before mid : Flow) (left given : Option (List ℕ)) (read_faults : ℕ) (reader : ReaderState) (world : World) (place : Place) (count : ℕ) (line : List ℕ)
-    (buf : List ℕ) (n : ℕ) (i : IsFlowing first before mid reader world place count) → n ≡ 0 → Consumes mid.left left (take n buf) → (n ≡ 0 → 0 < length buf → IsAtEnd left) → 0 < length buf
-    → Gains mid.given given (take n buf) → line ≡ []
-    → Answered first before (flow left given read_faults mid.written mid.write_faults) line 0
-ends_whole first before mid left given read_faults reader world place count line buf n i is begun' end' room last' none =
-    let begun : Consumes mid.left left [] = subst (λ (m : ℕ). Consumes mid.left left (take m buf)) is begun' in
-    let last : Gains mid.given given [] = subst (λ (m : ℕ). Gains mid.given given (take m buf)) is last' in
-    let end : IsAtEnd left = end' is room in
+pub ends_whole : (first : ℕ) (before mid : Flow) (input : SourceState) (reader : ReaderState) (world : World) (place : Place) (count : ℕ) (line : List ℕ)
+    (buf : List ℕ) (n : ℕ) (i : IsFlowing first before mid reader world place count) → n ≡ 0 → Consumes mid.input.left input.left (take n buf) → (n ≡ 0 → 0 < length buf → IsAtEnd input.left) → 0 < length buf
+    → Gains mid.input.given input.given (take n buf) → line ≡ []
+    → Answered first before (record { input = input; output = mid.output }) line 0
+ends_whole first before mid input reader world place count line buf n i is begun' end' room last' none =
+    let begun : Consumes mid.input.left input.left [] = subst (λ (m : ℕ). Consumes mid.input.left input.left (take m buf)) is begun' in
+    let last : Gains mid.input.given input.given [] = subst (λ (m : ℕ). Gains mid.input.given input.given (take m buf)) is last' in
+    let end : IsAtEnd input.left = end' is room in
     let text = text_under_way first i.input i.told reader world place i.under_way in
-    let took : Took before.left left before.given given (i.input ++ []) = took_more _ _ _ _ _ _ i.input [] i.took begun last in
+    let took : Took before.input.left input.left before.input.given input.given (i.input ++ []) = took_more _ _ _ _ _ _ i.input [] i.took begun last in
     record {
       input = i.input;
-      took = subst (λ (l : List ℕ). Took before.left left before.given given l) (append-nil i.input) took;
-      text = subst (λ (x : StepText). Grows before.written mid.written x.text) (sym text) i.wrote;
+      took = subst (λ (l : List ℕ). Took before.input.left input.left before.input.given input.given l) (append-nil i.input) took;
+      text = subst (λ (x : StepText). Grows before.output.written mid.output.written x.text) (sym text) i.wrote;
       status_is = ap (λ x. ending_status x.ending) (sym text);
       line_is = none ∙ ap (λ x. ending_line x.ending) (sym text);
       at_end = λ _. end;
       ended = λ other. absurd (other refl);
+      last = λ other. absurd (other refl);
       scratch = λ _. step_text_from_scratch first i.input (ap (λ x. x.ending) text);
     }
 
 -- a read failed
-pub ends_at_read : (first : ℕ) (before mid : Flow) (left given : Option (List ℕ)) (read_faults : ℕ) (reader : ReaderState) (world : World) (place : Place) (count : ℕ)
-    (i : IsFlowing first before mid reader world place count) → Keeps mid.left left → given ≡ mid.given → Rose mid.read_faults read_faults
-    → ReadFailed first before (flow left given read_faults mid.written mid.write_faults)
-ends_at_read first before mid left given read_faults reader world place count i begun last cause =
+pub ends_at_read : (first : ℕ) (before mid : Flow) (input : SourceState) (reader : ReaderState) (world : World) (place : Place) (count : ℕ)
+    (i : IsFlowing first before mid reader world place count) → Keeps mid.input.left input.left → input.given ≡ mid.input.given → Rose mid.input.faults input.faults
+    → ReadFailed first before (record { input = input; output = mid.output })
+ends_at_read first before mid input reader world place count i begun last cause =
     let text = text_under_way first i.input i.told reader world place i.under_way in
     record {
       input = i.input;
-      took = record { first = consumes_kept _ _ _ i.input i.took.first begun; last = subst (λ (x : Option (List ℕ)). Gains before.given x i.input) (sym last) i.took.last };
+      took = record { first = consumes_kept _ _ _ i.input i.took.first begun; last = subst (λ (x : Option (List ℕ)). Gains before.input.given x i.input) (sym last) i.took.last };
       cause = rose_later _ _ _ i.reads cause;
-      text = subst (λ (x : StepText). Grows before.written mid.written x.text) (sym text) i.wrote;
+      goes_on = ap (λ x. x.ending) text;
+      text = subst (λ (x : StepText). Grows before.output.written mid.output.written x.text) (sym text) i.wrote;
     }
 
 -- no end was waited for
@@ -162,27 +180,30 @@ ends_too_long first before after reader world place count i long =
       input = i.input;
       took = i.took;
       cause = omega (arith, i.counted, long);
-      text = subst (λ (x : StepText). Grows before.written after.written x.text) (sym text) i.wrote;
+      goes_on = ap (λ x. x.ending) text;
+      text = subst (λ (x : StepText). Grows before.output.written after.output.written x.text) (sym text) i.wrote;
     }
 
 -- the piece had no memory, or its text was not written
-pub stops_in_piece : (first : ℕ) (before mid : Flow) (left given written : Option (List ℕ)) (read_faults write_faults : ℕ) (reader new : ReaderState) (world later : World) (place to : Place) (count : ℕ) (piece : List ℕ) (stop : StepsStop)
-    (i : IsFlowing first before mid reader world place count) → Consumes mid.left left piece → Gains mid.given given piece
-    → PieceTaken first (i.input ++ piece) before.written written mid.write_faults write_faults new later to (Err stop)
-    → Stopped first stop before (flow left given read_faults written write_faults)
-stops_in_piece first before mid left given written read_faults write_faults reader new world later place to count piece Mem i begun last h = record {
+pub stops_in_piece : (first : ℕ) (before mid after : Flow) (reader new : ReaderState) (world later : World) (place to : Place) (count : ℕ) (piece : List ℕ) (stop : StepsStop)
+    (i : IsFlowing first before mid reader world place count) → Consumes mid.input.left after.input.left piece → Gains mid.input.given after.input.given piece → length piece ≤ 65_536
+    → PieceTaken first (i.input ++ piece) before.output.written mid.output after.output new later to (Err stop)
+    → Stopped first stop before after
+stops_in_piece first before mid after reader new world later place to count piece Mem i begun last size h = record {
   input = i.input ++ piece;
   took = took_more _ _ _ _ _ _ i.input piece i.took begun last;
+  last = ends_in first i.input i.told piece reader world place i.under_way size;
   text = h;
 }
-stops_in_piece first before mid left given written read_faults write_faults reader new world later place to count piece Write i begun last h = record {
+stops_in_piece first before mid after reader new world later place to count piece Write i begun last size h = record {
   input = i.input ++ piece;
   took = took_more _ _ _ _ _ _ i.input piece i.took begun last;
   cause = rose_later _ _ _ i.writes h.0;
+  last = ends_in first i.input i.told piece reader world place i.under_way size;
   text = h.1;
 }
-stops_in_piece first before mid left given written read_faults write_faults reader new world later place to count piece Read i begun last h = absurd h
-stops_in_piece first before mid left given written read_faults write_faults reader new world later place to count piece TooLong i begun last h = absurd h
+stops_in_piece first before mid after reader new world later place to count piece Read i begun last size h = absurd h
+stops_in_piece first before mid after reader new world later place to count piece TooLong i begun last size h = absurd h
 
 no_end_status : (status : ℕ) → IsEndStatus status → status ≡ 0 → ⊥
 no_end_status status (inl five) zero_is = omega arith
@@ -190,31 +211,33 @@ no_end_status status (inr (inl six)) zero_is = omega arith
 no_end_status status (inr (inr twelve)) zero_is = omega arith
 
 -- the piece ended the run
-pub ends_in_piece : (first : ℕ) (before mid : Flow) (left given written : Option (List ℕ)) (read_faults write_faults : ℕ) (reader new : ReaderState) (world later : World) (place to : Place) (count : ℕ) (piece : List ℕ)
+pub ends_in_piece : (first : ℕ) (before mid after : Flow) (reader new : ReaderState) (world later : World) (place to : Place) (count : ℕ) (piece : List ℕ)
     (end : RunEnd) (line : List ℕ) (status : ℕ)
-    (i : IsFlowing first before mid reader world place count) → Consumes mid.left left piece → Gains mid.given given piece
-    → PieceTaken first (i.input ++ piece) before.written written mid.write_faults write_faults new later to (Ok (Some end))
+    (i : IsFlowing first before mid reader world place count) → Consumes mid.input.left after.input.left piece → Gains mid.input.given after.input.given piece → length piece ≤ 65_536
+    → PieceTaken first (i.input ++ piece) before.output.written mid.output after.output new later to (Ok (Some end))
     → line ≡ ending_line (ending_seen end) → status ≡ ending_status (ending_seen end) → IsEndStatus status
-    → Answered first before (flow left given read_faults written write_faults) line status
-ends_in_piece first before mid left given written read_faults write_faults reader new world later place to count piece end line status i begun last h line_is status_is known = record {
+    → Answered first before after line status
+ends_in_piece first before mid after reader new world later place to count piece end line status i begun last size h line_is status_is known = record {
   input = i.input ++ piece;
   took = took_more _ _ _ _ _ _ i.input piece i.took begun last;
-  text = subst (λ (x : StepText). Grows before.written written x.text) (sym h.1.text) h.2;
+  text = subst (λ (x : StepText). Grows before.output.written after.output.written x.text) (sym h.1.text) h.2;
   status_is = status_is ∙ ap (λ x. ending_status x.ending) (sym h.1.text);
   line_is = line_is ∙ ap (λ x. ending_line x.ending) (sym h.1.text);
   at_end = λ zero_is. absurd (no_end_status status known zero_is);
   ended = λ _. h.1.stays;
+  last = λ _. ends_in first i.input i.told piece reader world place i.under_way size;
   scratch = λ zero_is. absurd (no_end_status status known zero_is);
 }
 
 -- there was no memory for its line
-pub ends_without_line : (first : ℕ) (before mid : Flow) (left given written : Option (List ℕ)) (read_faults write_faults : ℕ) (reader new : ReaderState) (world later : World) (place to : Place) (count : ℕ) (piece : List ℕ) (end : RunEnd)
-    (i : IsFlowing first before mid reader world place count) → Consumes mid.left left piece → Gains mid.given given piece
-    → PieceTaken first (i.input ++ piece) before.written written mid.write_faults write_faults new later to (Ok (Some end))
-    → RanOut first before (flow left given read_faults written write_faults)
-ends_without_line first before mid left given written read_faults write_faults reader new world later place to count piece end i begun last h = record {
+pub ends_without_line : (first : ℕ) (before mid after : Flow) (reader new : ReaderState) (world later : World) (place to : Place) (count : ℕ) (piece : List ℕ) (end : RunEnd)
+    (i : IsFlowing first before mid reader world place count) → Consumes mid.input.left after.input.left piece → Gains mid.input.given after.input.given piece → length piece ≤ 65_536
+    → PieceTaken first (i.input ++ piece) before.output.written mid.output after.output new later to (Ok (Some end))
+    → RanOut first before after
+ends_without_line first before mid after reader new world later place to count piece end i begun last size h = record {
   input = i.input ++ piece;
   took = took_more _ _ _ _ _ _ i.input piece i.took begun last;
+  last = ends_in first i.input i.told piece reader world place i.under_way size;
   text = (h.0, ([], append-nil h.0 ∙ ap (λ x. x.text) (sym h.1.text)), h.2);
 }
 
@@ -224,13 +247,13 @@ ends_known (Ok e) h = inr h
 ends_known (Err stop) h = tt
 
 -- so it is with what the code answers
-pub ends_by : (first : ℕ) (before mid : Flow) (left given written : Option (List ℕ)) (read_faults write_faults : ℕ) (reader new : ReaderState) (world later : World) (place to : Place) (count : ℕ) (piece : List ℕ) (end : RunEnd)
-    (r : Result Ended StepsStop) (i : IsFlowing first before mid reader world place count) → Consumes mid.left left piece → Gains mid.given given piece
-    → PieceTaken first (i.input ++ piece) before.written written mid.write_faults write_faults new later to (Ok (Some end))
+pub ends_by : (first : ℕ) (before mid after : Flow) (reader new : ReaderState) (world later : World) (place to : Place) (count : ℕ) (piece : List ℕ) (end : RunEnd)
+    (r : Result Ended StepsStop) (i : IsFlowing first before mid reader world place count) → Consumes mid.input.left after.input.left piece → Gains mid.input.given after.input.given piece → length piece ≤ 65_536
+    → PieceTaken first (i.input ++ piece) before.output.written mid.output after.output new later to (Ok (Some end))
     → IfOk r (λ e. e.line.items ≡ ending_line (ending_seen end)) → IfOk r (λ e. e.status ≡ ending_status (ending_seen end)) → IfOk r (λ e. IsEndStatus e.status) → IfErr r (λ stop. stop ≡ Mem)
-    → MatchResult r (λ e. Answered first before (flow left given read_faults written write_faults) e.line.items e.status) (λ stop. Stopped first stop before (flow left given read_faults written write_faults))
-ends_by first before mid left given written read_faults write_faults reader new world later place to count piece end (Ok e) i begun last h line_is status_is known none =
-    ends_in_piece first before mid left given written read_faults write_faults reader new world later place to count piece end e.line.items e.status i begun last h line_is status_is known
-ends_by first before mid left given written read_faults write_faults reader new world later place to count piece end (Err stop) i begun last h line_is status_is known is =
-    subst (λ (s : StepsStop). Stopped first s before (flow left given read_faults written write_faults)) (sym is)
-    (ends_without_line first before mid left given written read_faults write_faults reader new world later place to count piece end i begun last h)
+    → MatchResult r (λ e. Answered first before after e.line.items e.status) (λ stop. Stopped first stop before after)
+ends_by first before mid after reader new world later place to count piece end (Ok e) i begun last size h line_is status_is known none =
+    ends_in_piece first before mid after reader new world later place to count piece end e.line.items e.status i begun last size h line_is status_is known
+ends_by first before mid after reader new world later place to count piece end (Err stop) i begun last size h line_is status_is known is =
+    subst (λ (s : StepsStop). Stopped first s before after) (sym is)
+    (ends_without_line first before mid after reader new world later place to count piece end i begun last size h)

@@ -1,8 +1,7 @@
 -- What the command `cursor` does: it writes the line of the cursor whose text it is given.
-use Rattle.std.specs.Prelude.{ℕ, ◌≡◌, ◌==◌, ◌⊎◌, ◌↔◌, List, [], ◌∷◌, ◌++◌, codes, drop, nat_eq, if◌then◌else◌, Option, None, Some}
+use Rattle.std.specs.Prelude.{ℕ, ◌≡◌, ◌⊎◌, ◌↔◌, List, [], ◌∷◌, ◌++◌, codes, Option, None, Some}
 use Rattle.std.specs.Fmt.{decimal}
-use Rattle.std.specs.List.{starts_with}
-use Rattle.std.specs.Str.{bytes_eq, IsUtf8}
+use Rattle.std.specs.Str.{IsUtf8}
 use Rattle.outer_world.specs.Causes.{Rose}
 use Rattle.outer_world.specs.Told.{Grows, GrowsByFront}
 use Rattle.block_record.specs.declared.blocks.BlockRef.{BlockRef}
@@ -14,28 +13,7 @@ use Rattle.fire_tool.specs.declared.cursor.CursorStop.{CursorStop}
 use Rattle.fire_tool.specs.declared.cursor.CursorStop.TheVariants.{Mem, Write}
 use Rattle.fire_tool.specs.ErrorLines.{named}
 use Rattle.step_text.specs.StepText.{word_of}
-use Rattle.fire_tool.specs.Runs.{Streams, TookInput, WroteNothing, ToldError, Runs, steps_first}
-
--- the value of an option, unless it is empty or begins with a dash
-abbrev pub plain_value : List ℕ → Option (List ℕ)
-plain_value [] = None
-plain_value (b ∷ value) = if b == 45 then None else Some (b ∷ value)
-
--- the value in the one word `--text=VALUE`
-abbrev pub value_in : List ℕ → Option (List ℕ)
-value_in word = if starts_with nat_eq word (codes "--text=") then plain_value (drop 7 word) else None
-
--- the value in the two words `--text` and VALUE
-abbrev pub value_after : List ℕ → List ℕ → Option (List ℕ)
-value_after name value = if bytes_eq name (codes "--text") then plain_value value else None
-
--- the value of `--text`, where the words are `cursor` with this option and nothing else
-abbrev pub cursor_value : List (List ℕ) → Option (List ℕ)
-cursor_value [] = None
-cursor_value (command ∷ []) = None
-cursor_value (command ∷ word ∷ []) = if bytes_eq command (codes "cursor") then value_in word else None
-cursor_value (command ∷ name ∷ value ∷ []) = if bytes_eq command (codes "cursor") then value_after name value else None
-cursor_value (command ∷ name ∷ value ∷ next ∷ more) = None
+use Rattle.fire_tool.specs.Streams.{SinkState, Streams, TookInput, WroteNothing, ToldError}
 
 -- a block that may be missing: `0 -`
 abbrev pub place_text : Option BlockRef → List ℕ
@@ -61,34 +39,34 @@ pub record IsTextOf (text : List ℕ) (c : Cursor) : Type 0 where
   pub text_is : text ≡ cursor_text c
 
 -- the text is that of a cursor, whose line was written; no error line is told
-pub record LineWritten (text : List ℕ) (before after : Option (List ℕ)) (line : List ℕ) : Type 0 where
+pub record LineWritten (text : List ℕ) (before after : SinkState) (line : List ℕ) : Type 0 where
   pub cursor : Cursor
   pub text_of : IsTextOf text cursor
-  pub written : Grows before after (cursor_line cursor)
+  pub written : Grows before.written after.written (cursor_line cursor)
   pub silent : line ≡ []
 
 -- the text has a first bad part, which the error line names; nothing was written
-pub record TextRefused (text : List ℕ) (before after : Option (List ℕ)) (line : List ℕ) : Type 0 where
+pub record TextRefused (text : List ℕ) (before after : SinkState) (line : List ℕ) : Type 0 where
   pub place : ℕ
   pub place_is : cursor_fault text ≡ Some place
   pub line_is : line ≡ malformed_line place
-  pub nothing : after ≡ before
+  pub nothing : after.written ≡ before.written
 
 -- the text is that of a cursor, and a front of its line was written
-pub record LineCut (text : List ℕ) (before after : Option (List ℕ)) : Type 0 where
+pub record LineCut (text : List ℕ) (before after : SinkState) : Type 0 where
   pub cursor : Cursor
   pub text_of : IsTextOf text cursor
-  pub written : GrowsByFront before after (cursor_line cursor)
+  pub written : GrowsByFront before.written after.written (cursor_line cursor)
 
 -- how the command ended with an answer: at 0 the line was written, at 16 the text was refused
-abbrev pub CursorAnswered : List ℕ → Option (List ℕ) → Option (List ℕ) → List ℕ → ℕ → Type 0
+abbrev pub CursorAnswered : List ℕ → SinkState → SinkState → List ℕ → ℕ → Type 0
 CursorAnswered text before after line status =
     ((status ≡ 0) × LineWritten text before after line) ⊎ ((status ≡ 16) × TextRefused text before after line)
 
 -- why it ended without one: memory, which is free, or a write failed
-abbrev pub CursorStopped : CursorStop → List ℕ → Option (List ℕ) → Option (List ℕ) → ℕ → ℕ → Type 0
-CursorStopped Mem text before after faults now = after ≡ before
-CursorStopped Write text before after faults now = Rose faults now × LineCut text before after
+abbrev pub CursorStopped : CursorStop → List ℕ → SinkState → SinkState → Type 0
+CursorStopped Mem text before after = after.written ≡ before.written
+CursorStopped Write text before after = Rose before.faults after.faults × LineCut text before after
 
 -- the line that says why
 abbrev pub cursor_stop_line : CursorStop → List ℕ
@@ -105,17 +83,8 @@ pub record CursorRun (text : List ℕ) (before after : Streams) (status : ℕ) :
   pub known : (status ≡ 0) ⊎ (status ≡ 1) ⊎ (status ≡ 2) ⊎ (status ≡ 4) ⊎ (status ≡ 16)
   pub usage : (status ≡ 2) ↔ (¬ (IsUtf8 text))
   pub input : TookInput before.flow after.flow []
-  pub told : status ≡ 0 → (line : List ℕ) × LineWritten text before.flow.written after.flow.written line × ToldError before after line
-  pub refused : status ≡ 16 → (line : List ℕ) × TextRefused text before.flow.written after.flow.written line × ToldError before after line
+  pub told : status ≡ 0 → (line : List ℕ) × LineWritten text before.flow.output after.flow.output line × ToldError before after line
+  pub refused : status ≡ 16 → (line : List ℕ) × TextRefused text before.flow.output after.flow.output line × ToldError before after line
   pub ran_out : status ≡ 1 → WroteNothing before.flow after.flow × ToldError before after (codes "fire: out of memory\n")
   pub misused : status ≡ 2 → WroteNothing before.flow after.flow × ToldError before after (codes "fire: usage\n")
-  pub write_failed : status ≡ 4 → Rose before.flow.write_faults after.flow.write_faults × LineCut text before.flow.written after.flow.written × ToldError before after (codes "fire: write fault\n")
-
--- a run of `cursor` with this value, where the words name that, and else of another command
-abbrev pub RunsCommand : Option (List ℕ) → List (List ℕ) → Streams → Streams → ℕ → Type 0
-RunsCommand None words before after status = Runs (steps_first words) before after status
-RunsCommand (Some text) words before after status = CursorRun text before after status
-
--- a run with these words, by the command that they name
-abbrev pub RunsPlain : List (List ℕ) → Streams → Streams → ℕ → Type 0
-RunsPlain words before after status = RunsCommand (cursor_value words) words before after status
+  pub write_failed : status ≡ 4 → Rose before.flow.output.faults after.flow.output.faults × LineCut text before.flow.output after.flow.output × ToldError before after (codes "fire: write fault\n")

@@ -1,8 +1,9 @@
 //! The command that says what a cursor's text stands for.
 
-ghost use Rattle.std.specs.Prelude.{◌≡◌, ◌++◌, ℕ, List, IfOk, IfErr, OnOk, MatchResult, map};
+ghost use Rattle.std.specs.Prelude.{◌≡◌, ◌++◌, ℕ, List, IfOk, IfErr, OnOk, MatchResult};
 ghost use Rattle.std.specs.Option.{option_copied};
-ghost use Rattle.fire_tool.specs.CursorCommand.{plain_value as plain_value_of, value_in as value_in_word, value_after as value_after_name, cursor_value as cursor_value_of, place_text, tail_text, cursor_line as line_of_cursor, malformed_line as line_of_place, IsTextOf, CursorAnswered, CursorStopped, cursor_stop_line, cursor_stop_status};
+ghost use Rattle.fire_tool.specs.CursorCommand.{place_text, tail_text, cursor_line as line_of_cursor, malformed_line as line_of_place, IsTextOf, CursorAnswered, CursorStopped, cursor_stop_line, cursor_stop_status};
+ghost use Rattle.fire_tool.specs.Streams.{sink_at};
 
 use crate::error_lines::push_named;
 use crate::steps::Ended;
@@ -41,54 +42,6 @@ impl CursorStop {
             CursorStop::Mem => 1,
             CursorStop::Write => 4,
         }
-    }
-}
-
-/// The value of an option, unless it is empty or begins with a dash.
-fn plain_value(value: &[u8]) -> Option<&[u8]>
-    ensures { option_copied result ≡ plain_value_of value.now }
-{
-    match value {
-        [] | [b'-', ..] => None,
-        _ => Some(value),
-    }
-}
-
-/// The value in the one word `--text=VALUE`.
-fn value_in(word: &[u8]) -> Option<&[u8]>
-    ensures { option_copied result ≡ value_in_word word.now }
-{
-    match word.strip_prefix(b"--text=".as_slice()) {
-        Some(value) => plain_value(value),
-        None => None,
-    }
-}
-
-/// The value in the two words `--text` and VALUE.
-fn value_after<'a>(name: &[u8], value: &'a [u8]) -> Option<&'a [u8]>
-    ensures { option_copied result ≡ value_after_name name.now value.now }
-{
-    if name == b"--text".as_slice() {
-        plain_value(value)
-    } else {
-        None
-    }
-}
-
-/// The value of `--text`, where the words are `cursor` with this option and nothing else.
-pub fn cursor_value(words: &[Vec<u8>]) -> Option<&[u8]>
-    ensures { option_copied result ≡ cursor_value_of (map (λ w. w.items) words.now) }
-{
-    let [command, options @ ..] = words else {
-        return None;
-    };
-    if command.as_slice() != b"cursor".as_slice() {
-        return None;
-    }
-    match options {
-        [word] => value_in(word.as_slice()),
-        [name, value] => value_after(name.as_slice(), value.as_slice()),
-        _ => None,
     }
 }
 
@@ -147,11 +100,11 @@ fn malformed_line(alloc: Global, at: u8) -> Result<Vec<u8>, AllocError>
 
 /// Writes the line of a cursor.
 fn tell_cursor<O: Sink>(alloc: Global, cursor: &Cursor, output: &mut O) -> Result<Ended, CursorStop>
-    ensures { (text : List ℕ) → IsTextOf text cursor.now → MatchResult result
-        (λ e. CursorAnswered text (O.written output.old) (O.written output.new)
-        e.line.items e.status)
-        (λ stop. CursorStopped stop text (O.written output.old) (O.written output.new)
-        (O.write_faults output.old) (O.write_faults output.new)) }
+    ensures { (text : List ℕ) → IsTextOf text cursor.now
+        → let before = sink_at O.Sink output.old in let after = sink_at O.Sink output.new in
+        MatchResult result
+        (λ e. CursorAnswered text before after e.line.items e.status)
+        (λ stop. CursorStopped stop text before after) }
 {
     let Ok(line) = cursor_line(alloc, cursor) else {
         return Err(CursorStop::Mem);
@@ -179,11 +132,10 @@ fn refuse(alloc: Global, at: u8) -> Result<Ended, CursorStop>
 
 /// Writes the line of the cursor whose text this is.
 pub fn run_cursor<O: Sink>(alloc: Global, text: &[u8], output: &mut O) -> Result<Ended, CursorStop>
-    ensures { MatchResult result
-        (λ e. CursorAnswered text.now (O.written output.old) (O.written output.new)
-        e.line.items e.status)
-        (λ stop. CursorStopped stop text.now (O.written output.old) (O.written output.new)
-        (O.write_faults output.old) (O.write_faults output.new)) }
+    ensures { let before = sink_at O.Sink output.old in let after = sink_at O.Sink output.new in
+        MatchResult result
+        (λ e. CursorAnswered text.now before after e.line.items e.status)
+        (λ stop. CursorStopped stop text.now before after) }
 {
     match parse_cursor(alloc, text) {
         Ok(cursor) => tell_cursor(alloc, &cursor, output),

@@ -13,6 +13,7 @@ mod steps;
 mod streams;
 #[cfg(test)]
 mod tests;
+mod words;
 
 use memory_world::MemoryShelf;
 use outer_world::write_whole;

@@ -1,14 +1,15 @@
-//! The commands that run over streams in one thread.
+//! The commands over an input, an output and a place for error lines: what the words name is run, and
+//! how it ended is told.
 
-ghost use Rattle.std.specs.Prelude.{◌≡◌, ◌⊎◌, ℕ, List, Option, map};
-ghost use Rattle.outer_world.specs.Causes.{Rose};
-ghost use Rattle.outer_world.specs.Told.{Grows, GrowsByFront};
-ghost use Rattle.fire_tool.specs.Runs.{Flow, Misused, Runs, StepsRun, first_after as first_after_name, first_in as first_in_word, flow, steps_first as steps_first_of, streams};
-ghost use Rattle.fire_tool.specs.CursorCommand.{CursorRun, RunsPlain};
+ghost use Rattle.std.specs.Prelude.{◌≡◌, codes, map};
+ghost use Rattle.fire_tool.specs.CursorCommand.{CursorRun};
+ghost use Rattle.fire_tool.specs.Program.{RunsPlain};
+ghost use Rattle.fire_tool.specs.Runs.{StepsRun};
+ghost use Rattle.fire_tool.specs.Streams.{SourceState, ToldLine, sink_at, streams_at, streams_of};
 
-use crate::cursor::{cursor_value, run_cursor};
+use crate::cursor::run_cursor;
 use crate::steps::{Ended, run_steps};
-use block_record::read_number;
+use crate::words::{cursor_value, steps_first};
 use outer_world::{Shelf, Sink, Source, write_whole};
 use std::alloc::Global;
 
@@ -18,66 +19,35 @@ pub struct Status {
     pub code: u8,
 }
 
-/// The number in the one word `--first=N`.
-fn first_in(word: &[u8]) -> Option<u64>
-    ensures { result ≡ first_in_word word.now }
+/// Runs the command that the words name, over an input, an output, a place for error lines and a
+/// shelf, and gives the exit status. It always returns.
+pub fn run_plain<I: Source, O: Sink, E: Sink, S: Shelf>(
+    alloc: Global,
+    words: &[Vec<u8>],
+    input: &mut I,
+    output: &mut O,
+    errors: &mut E,
+    shelf: &mut S,
+) -> Status
+    // What stands in the streams afterwards, by the command that the words name.
+    ensures run { let streams = streams_at I.Source O.Sink E.Sink in
+        RunsPlain (map (λ w. w.items) words.now) (streams input.old output.old errors.old)
+        (streams input.new output.new errors.new) result.code }
+
+    // No command uses the shelf so far.
+    ensures shelf { shelf.new ≡ shelf.old }
 {
-    match word.strip_prefix(b"--first=".as_slice()) {
-        Some(value) => read_number(value),
-        None => None,
+    let _ = shelf;
+    match cursor_value(words) {
+        Some(text) => run_cursor_command(alloc, text, output, errors),
+        None => match steps_first(words) {
+            Some(first) => run_steps_command(alloc, first, input, output, errors),
+            None => refuse_words(errors),
+        },
     }
 }
 
-/// The number in the two words `--first` and N.
-fn first_after(name: &[u8], value: &[u8]) -> Option<u64>
-    ensures { result ≡ first_after_name name.now value.now }
-{
-    if name == b"--first".as_slice() {
-        read_number(value)
-    } else {
-        None
-    }
-}
-
-/// The first number that is taken, where the words are `steps` alone or with the option `--first`.
-fn steps_first(words: &[Vec<u8>]) -> Option<u64>
-    ensures { result ≡ steps_first_of (map (λ w. w.items) words.now) }
-{
-    let [command, options @ ..] = words else {
-        return None;
-    };
-    if command.as_slice() != b"steps".as_slice() {
-        return None;
-    }
-    match options {
-        [] => Some(0),
-        [word] => first_in(word.as_slice()),
-        [name, value] => first_after(name.as_slice(), value.as_slice()),
-        _ => None,
-    }
-}
-
-/// Writes a line to the errors. A failure changes nothing else.
-fn tell_error<E: Sink>(errors: &mut E, line: &[u8])
-    ensures { Grows (E.written errors.old) (E.written errors.new) line.now
-        ⊎ (Rose (E.write_faults errors.old) (E.write_faults errors.new)
-        × GrowsByFront (E.written errors.old) (E.written errors.new) line.now) }
-{
-    let _ = write_whole(errors, line);
-}
-
-/// Refuses words that name no command.
-fn refuse_words<E: Sink>(errors: &mut E) -> Status
-    ensures { (io : Flow) → Misused
-        (streams io (E.written errors.old) (E.write_faults errors.old))
-        (streams io (E.written errors.new) (E.write_faults errors.new))
-        result.code }
-{
-    tell_error(errors, b"fire: usage\n");
-    Status { code: 2 }
-}
-
-/// Runs `steps` for blocks with numbers of at least `first`.
+/// Runs `steps` for blocks with numbers of at least `first`, and tells how it ended.
 fn run_steps_command<I: Source, O: Sink, E: Sink>(
     alloc: Global,
     first: u64,
@@ -85,16 +55,9 @@ fn run_steps_command<I: Source, O: Sink, E: Sink>(
     output: &mut O,
     errors: &mut E,
 ) -> Status
-    ensures { StepsRun first
-        (streams
-        (flow (I.left input.old) (I.given input.old) (I.read_faults input.old)
-        (O.written output.old) (O.write_faults output.old))
-        (E.written errors.old) (E.write_faults errors.old))
-        (streams
-        (flow (I.left input.new) (I.given input.new) (I.read_faults input.new)
-        (O.written output.new) (O.write_faults output.new))
-        (E.written errors.new) (E.write_faults errors.new))
-        result.code }
+    ensures { let streams = streams_at I.Source O.Sink E.Sink in
+        StepsRun first (streams input.old output.old errors.old)
+        (streams input.new output.new errors.new) result.code }
 {
     match run_steps(alloc, first, input, output) {
         Ok(ended) => {
@@ -110,45 +73,16 @@ fn run_steps_command<I: Source, O: Sink, E: Sink>(
     }
 }
 
-/// Runs `steps` with this first number, or refuses words that name no command.
-fn run_other<I: Source, O: Sink, E: Sink>(
-    alloc: Global,
-    first: Option<u64>,
-    input: &mut I,
-    output: &mut O,
-    errors: &mut E,
-) -> Status
-    ensures { Runs first
-        (streams
-        (flow (I.left input.old) (I.given input.old) (I.read_faults input.old)
-        (O.written output.old) (O.write_faults output.old))
-        (E.written errors.old) (E.write_faults errors.old))
-        (streams
-        (flow (I.left input.new) (I.given input.new) (I.read_faults input.new)
-        (O.written output.new) (O.write_faults output.new))
-        (E.written errors.new) (E.write_faults errors.new))
-        result.code }
-{
-    match first {
-        Some(first) => run_steps_command(alloc, first, input, output, errors),
-        None => refuse_words(errors),
-    }
-}
-
-/// Runs `cursor` with this value of its option.
+/// Runs `cursor` with this value of its option, and tells how it ended.
 fn run_cursor_command<O: Sink, E: Sink>(
     alloc: Global,
     text: &[u8],
     output: &mut O,
     errors: &mut E,
 ) -> Status
-    ensures { (left given : Option (List ℕ)) (faults : ℕ) → CursorRun text.now
-        (streams
-        (flow left given faults (O.written output.old) (O.write_faults output.old))
-        (E.written errors.old) (E.write_faults errors.old))
-        (streams
-        (flow left given faults (O.written output.new) (O.write_faults output.new))
-        (E.written errors.new) (E.write_faults errors.new))
+    ensures { (input : SourceState) → CursorRun text.now
+        (streams_of input (sink_at O.Sink output.old) (sink_at E.Sink errors.old))
+        (streams_of input (sink_at O.Sink output.new) (sink_at E.Sink errors.new))
         result.code }
 {
     if str::from_utf8(text).is_err() {
@@ -169,33 +103,19 @@ fn run_cursor_command<O: Sink, E: Sink>(
     }
 }
 
-/// Runs the command that the words name, over an input, an output, a place for error lines and a
-/// shelf, and gives the exit status. It always returns.
-pub fn run_plain<I: Source, O: Sink, E: Sink, S: Shelf>(
-    alloc: Global,
-    words: &[Vec<u8>],
-    input: &mut I,
-    output: &mut O,
-    errors: &mut E,
-    shelf: &mut S,
-) -> Status
-    ensures run { RunsPlain (map (λ w. w.items) words.now)
-        (streams
-        (flow (I.left input.old) (I.given input.old) (I.read_faults input.old)
-        (O.written output.old) (O.write_faults output.old))
-        (E.written errors.old) (E.write_faults errors.old))
-        (streams
-        (flow (I.left input.new) (I.given input.new) (I.read_faults input.new)
-        (O.written output.new) (O.write_faults output.new))
-        (E.written errors.new) (E.write_faults errors.new))
-        result.code }
-
-    // No command uses the shelf so far.
-    ensures shelf { shelf.new ≡ shelf.old }
+/// Refuses words that name no command.
+fn refuse_words<E: Sink>(errors: &mut E) -> Status
+    ensures status { result.code ≡ 2 }
+    ensures told { ToldLine (sink_at E.Sink errors.old) (sink_at E.Sink errors.new)
+        (codes "fire: usage\n") }
 {
-    let _ = shelf;
-    match cursor_value(words) {
-        Some(text) => run_cursor_command(alloc, text, output, errors),
-        None => run_other(alloc, steps_first(words), input, output, errors),
-    }
+    tell_error(errors, b"fire: usage\n");
+    Status { code: 2 }
+}
+
+/// Writes an error line, which may be empty. A failure changes nothing else.
+fn tell_error<E: Sink>(errors: &mut E, line: &[u8])
+    ensures { ToldLine (sink_at E.Sink errors.old) (sink_at E.Sink errors.new) line.now }
+{
+    let _ = write_whole(errors, line);
 }

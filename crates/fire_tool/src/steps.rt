@@ -4,7 +4,8 @@ ghost use Rattle.std.specs.Prelude.{◌≡◌, ◌++◌, ◌≤◌, [], ℕ, Lis
 ghost use Rattle.outer_world.specs.Told.{Grows};
 ghost use Rattle.fire_tool.specs.ErrorLines.{ending_line, ending_status, IsEndStatus};
 ghost use Rattle.fire_tool.specs.Pieces.{PieceTaken};
-ghost use Rattle.fire_tool.specs.Runs.{IsAnswer, Answered, Stopped, flow, stop_line, stop_status};
+ghost use Rattle.fire_tool.specs.Runs.{IsAnswer, Answered, Stopped, stop_line, stop_status};
+ghost use Rattle.fire_tool.specs.Streams.{flow_at, sink_at};
 ghost use Rattle.fire_tool.specs.Telling.{IsUnderWay, ending_seen};
 
 use crate::error_lines::{line_of_end, status_of_end};
@@ -68,10 +69,11 @@ fn take_piece<O: Sink>(
     output: &mut O,
 ) -> Result<Option<RunEnd>, StepsStop>
     ensures taken { (first : ℕ) (input told : List ℕ) (start : Option (List ℕ))
-        → IsUnderWay first input told progress.old.reader progress.old.follower.world progress.old.follower.place
+        → IsUnderWay first input told
+        progress.old.reader progress.old.follower.world progress.old.follower.place
         → Grows start (O.written output.old) told
-        → PieceTaken first (input ++ piece.now) start (O.written output.new)
-        (O.write_faults output.old) (O.write_faults output.new)
+        → PieceTaken first (input ++ piece.now) start
+        (sink_at O.Sink output.old) (sink_at O.Sink output.new)
         progress.new.reader progress.new.follower.world progress.new.follower.place result }
     ensures faults { O.write_faults output.old ≤ O.write_faults output.new }
 {
@@ -109,10 +111,8 @@ pub fn run_steps<I: Source, O: Sink>(
     output: &mut O,
 ) -> Result<Ended, StepsStop>
     ensures answer { IfOk result (λ e. IsAnswer e.status) }
-    ensures done { let before = flow (I.left input.old) (I.given input.old) (I.read_faults input.old)
-        (O.written output.old) (O.write_faults output.old) in
-        let after = flow (I.left input.new) (I.given input.new) (I.read_faults input.new)
-        (O.written output.new) (O.write_faults output.new) in
+    ensures done { let before = flow_at I.Source O.Sink input.old output.old in
+        let after = flow_at I.Source O.Sink input.new output.new in
         MatchResult result
         (λ e. Answered first before after e.line.items e.status)
         (λ stop. Stopped first stop before after) }
