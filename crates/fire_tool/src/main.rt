@@ -3,8 +3,6 @@
 #![tactic(auto)]
 
 mod cursor;
-#[cfg(test)]
-mod cursor_tests;
 mod error_lines;
 mod following;
 mod progress;
