@@ -24,13 +24,15 @@ use Rattle.fork_db.specs.Batches.{IsGiven, WasGiven, step_seen}
 use Rattle.relay_model.specs.Worlds.{World}
 use Rattle.relay_model.specs.Offers.{Answer, offered}
 use Rattle.relay_model.specs.Soundness.{IsBlock, IsSound}
-use Rattle.relay_model.proofs.public.Sound.{offer_keeps, offer_grows}
-use Rattle.block_relay.specs.declared.answers.Offered.{Offered}
-use Rattle.block_relay.specs.declared.answers.Offered.TheVariants as answer
-use Rattle.block_relay.specs.declared.answers.OfferFault.{OfferFault}
-use Rattle.block_relay.specs.declared.answers.OfferFault.TheVariants as fault
-use Rattle.block_relay.specs.Answers.{IsAnswer, is_mem}
-use Rattle.block_relay.specs.Chronicle.{Told as ToldOf, world_told}
+use Rattle.relay_model.proofs.public.Sound.{offer_keeps, offer_grows, same_sound}
+use Rattle.block_intake.specs.declared.answers.Offered.{Offered}
+use Rattle.block_intake.specs.declared.answers.Offered.TheVariants as answer
+use Rattle.block_intake.specs.declared.answers.OfferFault.{OfferFault}
+use Rattle.block_intake.specs.declared.answers.OfferFault.TheVariants as fault
+use Rattle.block_intake.specs.Answers.{IsAnswer, is_mem}
+use Rattle.block_intake.specs.Intakes.{IsAlike, IsUnchanged, TakenIn, unnoted, world_taken}
+use Rattle.block_intake.proofs.AlikeFacts.{alike_back, offered_alike}
+use Rattle.block_intake.proofs.IntakeFacts.{unchanged_world}
 use Rattle.step_text.specs.declared.refusals.Refusal.{Refusal}
 use Rattle.step_text.specs.StepText.{Told, place_by, prepend, refusal_of, step_line, step_lines, steps_by, tell}
 use Rattle.step_text.specs.Taken.{IsTaken, Tells}
@@ -43,33 +45,43 @@ fits_grown newest older place (more, is) history agreed fits =
     subst (λ l. IsHistory l → ClaimsAgree l → PlaceFits l place.end place.lib) is (λ h a. fits_later more older h a place.end place.lib fits) history agreed
 
 -- so they do after each offer
-pub followed_on : (said : Result Offered OfferFault) (old new : ToldOf) (s : Slip) (place : Place) → IsFollowed old place → IsBlock s
-    → (is_mem said ≡ false → world_told new ≡ (offered (world_told old) s).world) → (is_mem said ≡ true → new ≡ old) → new.payloads ≡ old.payloads → IsFollowed new place
-followed_on said old new s place f block world mem payloads = by (is_mem said) refl
+pub followed_on : (said : Result Offered OfferFault) (old new : TakenIn) (s : Slip) (place : Place) → IsFollowed old place → IsBlock s
+    → (is_mem said ≡ false → world_taken new ≡ unnoted (offered (world_taken old) s).world) → (is_mem said ≡ true → IsUnchanged old new) → IsFollowed new place
+followed_on said old new s place f block world mem = by (is_mem said) refl
   where
     by : (b : Bool) → is_mem said ≡ b → IsFollowed new place
-    by true e = subst (λ (t : ToldOf). IsFollowed t place) (sym (mem e)) f
+    by true e =
+        let same = unchanged_world old new (mem e) in
+        record {
+          sound = subst IsSound (sym same) f.sound;
+          fits = subst (λ (v : World). PlaceFits v.history place.end place.lib) (sym same) f.fits;
+        }
     by false e =
-        let w = world_told old in
+        let w = world_taken old in
         let sound : IsSound (offered w s).world = offer_keeps w s f.sound block in
         let fits : PlaceFits (offered w s).world.history place.end place.lib = fits_grown (offered w s).world.history w.history place (offer_grows w s) sound.history sound.agreed f.fits in
         record {
-          sound = subst IsSound (sym (world e)) sound;
+          sound = subst IsSound (sym (world e)) (same_sound (offered w s).world (unnoted (offered w s).world) refl refl (λ none. none) refl sound);
           fits = subst (λ (v : World). PlaceFits v.history place.end place.lib) (sym (world e)) fits;
-          payloads = payloads ∙ f.payloads;
         }
+
+-- what is told of blocks from worlds that are alike
+pub tell_alike : (slips : List Slip) (w v : World) (place : Place) → IsAlike w v → w.closed ≡ v.closed → tell slips w place ≡ tell slips v place
+tell_alike [] w v place a closed = refl
+tell_alike (s ∷ slips) w v place a closed =
+    let o = offered_alike w v s a closed in
+    rw (← tell_alike slips (offered w s).world (offered v s).world (place_by (offered v s).answer (offered v s).world.history place) o.world o.closed, o.answer, o.world.history) refl
 
 -- the place that is reached fits
 pub fits_reached : (newest : List Slip) (place to : Place) → IsHistory newest → PlaceFits newest place.end place.lib → to ≡ place_to newest place mode.Live None → PlaceFits newest to.end to.lib
 fits_reached newest place to h fits e = subst (λ (p : Place). PlaceFits newest p.end p.lib) (sym e) (place_reached newest place mode.Live None h fits tt).fits
 
 -- so a client follows on after its steps to the head
-pub followed_told : (relay : ToldOf) (newest : List Slip) (from at to : Place) → IsFollowed relay from → newest ≡ (world_told relay).history → at ≡ from → to ≡ place_to newest at mode.Live None → IsFollowed relay to
-followed_told relay newest from at to f same begun reached = record {
+pub followed_told : (taken : TakenIn) (newest : List Slip) (from at to : Place) → IsFollowed taken from → newest ≡ taken.forks.history → at ≡ from → to ≡ place_to newest at mode.Live None → IsFollowed taken to
+followed_told taken newest from at to f same begun reached = record {
   sound = f.sound;
-  fits = fits_reached (world_told relay).history from to f.sound.history f.fits
-      (reached ∙ ap (λ l. place_to l at mode.Live None) same ∙ ap (λ (p : Place). place_to (world_told relay).history p mode.Live None) begun);
-  payloads = f.payloads;
+  fits = fits_reached taken.forks.history from to f.sound.history f.fits
+      (reached ∙ ap (λ l. place_to l at mode.Live None) same ∙ ap (λ (p : Place). place_to taken.forks.history p mode.Live None) begun);
 }
 
 -- the place that is reached, and the text that is told, by other names
@@ -182,14 +194,14 @@ unfolding TellsNothing
 text_kept a said newest place text e m is = sym (ap (λ l. text ++ step_lines (map plain_of l)) ((nothing_told a said e m is).1 newest place) ∙ append-nil text)
 
 -- a block that was offered, and whose answer was told
-pub taken_answer : (a : Result Offered OfferFault) (s : Slip) (old mid new : World) (from at to : Place) (before after : List ℕ) (r : Option Refusal) → is_mem a ≡ false
-    → (is_mem a ≡ false → mid ≡ (offered old s).world) → at ≡ from → new ≡ mid
+pub taken_answer : (a : Result Offered OfferFault) (s : Slip) (old mid : World) (from at to : Place) (before after : List ℕ) (r : Option Refusal) → is_mem a ≡ false
+    → (is_mem a ≡ false → mid ≡ unnoted (offered old s).world) → at ≡ from
     → to ≡ place_by (offered old s).answer mid.history at → after ≡ before ++ step_lines (map plain_of (steps_by (offered old s).answer mid.history at))
-    → r ≡ refusal_of (offered old s).answer → IsTaken s old new from to before after r
-taken_answer a s old mid new from at to before after r m world place same reached text refused =
+    → r ≡ refusal_of (offered old s).answer → IsTaken s old (offered old s).world from to before after r
+taken_answer a s old mid from at to before after r m world place reached text refused =
     let said = (offered old s).answer in
     record {
-      world = same ∙ world m;
+      world = refl;
       place = reached ∙ ap (λ (w : World). place_by said w.history at) (world m) ∙ ap (place_by said (offered old s).world.history) place;
       text = text ∙ ap (λ (w : World). before ++ step_lines (map plain_of (steps_by said w.history at))) (world m)
           ∙ ap (λ (p : Place). before ++ step_lines (map plain_of (steps_by said (offered old s).world.history p))) place;

@@ -1,4 +1,5 @@
-//! A relay and a client that follows its head: each block that is offered is answered, and told.
+//! What takes blocks in, and a client that follows the head: each block that is offered is answered,
+//! and told.
 
 ghost use Rattle.std.specs.Prelude.{◌≡◌, ◌<◌, ◌++◌, ◌∷◌, [], ℕ, List, Option, None, Err, IfOk, OnOk, map, take, drop, length, false};
 ghost use Rattle.block_record.specs.Slips.{slip};
@@ -7,7 +8,8 @@ ghost use Rattle.chain_model.specs.declared.places.Mode.{Mode as ModeOf};
 ghost use Rattle.chain_model.specs.declared.places.Mode.TheVariants as mode;
 ghost use Rattle.chain_model.specs.Places.{PlaceFits, no_place, place_to};
 ghost use Rattle.chain_model.specs.Steps.{steps_of, plain_of};
-ghost use Rattle.block_relay.specs.Answers.{IsAnswer, is_mem};
+ghost use Rattle.block_intake.specs.Answers.{IsAnswer, is_mem};
+ghost use Rattle.block_intake.specs.Intakes.{unnoted};
 ghost use Rattle.fire_tool.specs.Following.{admits};
 ghost use Rattle.relay_model.specs.Offers.{Answer, offered};
 ghost use Rattle.step_text.specs.Limits.{new_world};
@@ -15,8 +17,8 @@ ghost use Rattle.step_text.specs.StepText.{first_clash as first_clash_of, place_
 ghost use Rattle.step_text.specs.Taken.{IsTaken, Tells};
 ghost use Rattle.fork_db.specs.Batches.{IsGiven, WasGiven};
 
+use block_intake::{Conflict, Intake, IntakeLimits, OfferFault, Offered};
 use block_record::{Block, into_slip};
-use block_relay::{Conflict, Limits, OfferFault, Offered, Payloads, Relay};
 use chain_model::{Mode, Place};
 use fork_db::{Batch, ForkDb};
 use link_rows::Uncounted;
@@ -25,34 +27,41 @@ use std::marker::Model;
 use std::mem;
 use step_text::{Refusal, push_line};
 
+/// How much a run takes.
+#[derive(Clone, Copy)]
+pub struct RunLimits {
+    /// The bytes of a line.
+    pub line: u64,
+    /// What may be in the history, and wait.
+    pub intake: IntakeLimits,
+}
+
 /// The limits of a run.
-pub const LIMITS: Limits = Limits {
+pub const LIMITS: RunLimits = RunLimits {
     line: 67_108_864,
-    request: 65_536,
-    wait_blocks: 1_024,
-    wait_bytes: 536_870_912,
-    history: 4_194_304,
-    chunk: 256,
-    deaths: 5,
-    hold: 1_000_000,
+    intake: IntakeLimits {
+        history: 4_194_304,
+        wait_blocks: 1_024,
+        wait_bytes: 536_870_912,
+    },
 };
 
-/// A relay, and where a client stands that was told all steps to its heads.
+/// What takes blocks in, and where a client stands that was told all steps to the heads.
 #[derive(Drop)]
 pub struct Follower {
-    relay: Relay,
+    intake: Intake,
     place: Place,
 }
 
 impl Model for Follower {
-    ghost use Rattle.block_relay.specs.Chronicle.{world_told};
+    ghost use Rattle.block_intake.specs.Intakes.{world_taken};
     ghost use Rattle.fire_tool.specs.Following.{Following, IsFollowed};
 
     ghost Value = { Following };
 
-    ghost view = { λ f. record { world = world_told f.relay; place = f.place } };
+    ghost view = { λ f. record { world = world_taken f.intake; place = f.place } };
 
-    ghost invariant = { λ f. IsFollowed f.relay f.place };
+    ghost invariant = { λ f. IsFollowed f.intake f.place };
 }
 
 impl Follower {
@@ -61,9 +70,9 @@ impl Follower {
         ensures world { IfOk result (λ f. f.world ≡ new_world first) }
         ensures place { IfOk result (λ f. f.place ≡ no_place) }
     {
-        let relay = Relay::new(alloc, first, 0, LIMITS, Payloads::LetGo)?;
+        let intake = Intake::new(alloc, first, LIMITS.intake)?;
         Ok(Follower {
-            relay,
+            intake,
             place: nowhere(),
         })
     }
@@ -92,8 +101,11 @@ impl Follower {
     /// Offers a block, tells the steps that it brings about, and gives the refusal, if it is refused
     /// or drops a block that waited.
     fn offer(&mut self, block: Block, text: &mut Vec<u8>) -> Result<Option<Refusal>, AllocError>
-        ensures { IfOk result (λ refusal. IsTaken (slip block) self.old.world self.new.world
-            self.old.place self.new.place text.old.items text.new.items refusal) }
+        ensures taken { IfOk result (λ refusal. IsTaken (slip block) self.old.world
+            (offered self.old.world (slip block)).world self.old.place self.new.place
+            text.old.items text.new.items refusal) }
+        ensures world { OnOk result
+            (self.new.world ≡ unnoted (offered self.old.world (slip block)).world) }
     {
         let answer = self.offer_slip(block);
         self.tell_answer(&answer, text)?;
@@ -101,14 +113,14 @@ impl Follower {
         Ok(refusal)
     }
 
-    /// Offers a block to the relay. Its payload is let go, since no rule needs it any more.
+    /// Offers a block. Its payload is let go, since no rule needs it any more.
     fn offer_slip(&mut self, block: Block) -> Result<Offered, OfferFault>
         ensures said { IsAnswer (offered self.old.world (slip block)).answer result }
         ensures world { is_mem result ≡ false
-            → self.new.world ≡ (offered self.old.world (slip block)).world }
+            → self.new.world ≡ unnoted (offered self.old.world (slip block)).world }
         ensures place { self.new.place ≡ self.old.place }
     {
-        self.relay.offer_slip(into_slip(block))
+        self.intake.offer(into_slip(block), None)
     }
 
     /// Tells the steps to the head, where the answer admits a block.
@@ -140,7 +152,7 @@ impl Follower {
             (steps_of self.old.world.history self.old.place mode.Live None))) }
     {
         let place = mem::replace(&mut self.place, nowhere());
-        self.place = tell_from(self.relay.history(), place, text)?;
+        self.place = tell_from(self.intake.history(), place, text)?;
         Ok(())
     }
 }
@@ -211,7 +223,7 @@ fn is_admitted(answer: &Result<Offered, OfferFault>) -> bool
     }
 }
 
-/// The refusal that an answer is, if it is one. Nothing closes the relay of a run.
+/// The refusal that an answer is, if it is one. Nothing closes an intake.
 fn refusal_by(answer: Result<Offered, OfferFault>) -> Result<Option<Refusal>, AllocError>
     ensures mem { OnOk result (is_mem answer ≡ false) }
     ensures refusal { (said : Answer) → IsAnswer said answer

@@ -27,7 +27,7 @@ pub enum RunEnd {
 #[derive(Drop)]
 pub struct Progress {
     pub reader: LineReader,
-    /// The relay, and where a client stands that was told everything.
+    /// What takes blocks in, and where a client stands that was told everything.
     pub follower: Follower,
     /// The step lines of the last piece.
     pub text: Vec<u8>,

@@ -5,5 +5,5 @@ use Rattle.fire_tool.proofs.following.Follower.offer_slip.Goals as goal
 
 pub invariant_of-self : goal.invariant_of-self
 invariant_of-self c =
-    followed_on c.offer_slip.result c.self.inside.relay c.offer_slip.new.self c.into_slip.result c.self.inside.place c.self.invariant (subst IsBlock (sym c.into_slip.ensures) c.args.block.parent_first)
-    c.offer_slip.ensures.world c.offer_slip.ensures.mem c.offer_slip.ensures.payloads
+    followed_on c.offer.result c.self.inside.intake c.offer.new.self c.into_slip.result c.self.inside.place c.self.invariant (subst IsBlock (sym c.into_slip.ensures) c.args.block.parent_first)
+    c.offer.ensures.world c.offer.ensures.mem

@@ -1,9 +1,11 @@
-use Rattle.std.proofs.Common.{rules, sym, ◌∙◌, ap, subst, ◌≡◌, ◌∷◌, ◌++◌, [], map}
+use Rattle.std.proofs.Common.{rules, sym, ◌∙◌, ap, subst, ◌≡◌, ◌∷◌, ◌++◌, [], map, refl}
 use Rattle.block_record.specs.Slips.{slip}
+use Rattle.relay_model.specs.Offers.{offered}
+use Rattle.block_intake.specs.Intakes.{unnoted}
 use Rattle.step_text.specs.StepText.{tell, prepend}
 use Rattle.step_text.specs.Taken.{IsTaken}
 use Rattle.step_text.proofs.public.RunFacts.{told_on}
-use Rattle.fire_tool.proofs.TellFacts.{none_of, tells_refused, nothing_left}
+use Rattle.fire_tool.proofs.TellFacts.{none_of, tell_alike, tells_refused, nothing_left}
 use Rattle.fire_tool.proofs.following.Follower.tell.Goals as goal
 
 pub loop-block-init : goal.loop-block-init
@@ -14,17 +16,22 @@ loop-block-init c =
 pub loop-block-preserved : goal.loop-block-preserved
 loop-block-preserved c =
     let split : c.loop-block.block-iterator.rest.items ≡ c.in-Some.block ∷ c.next.new.self.rest.items = search rules in
-    λ more. told_on (slip c.in-Some.block) (map slip c.next.new.self.rest.items ++ more) c.loop-block.self.world c.offer.new.self.world c.loop-block.self.place c.offer.new.self.place
+    let s = slip c.in-Some.block in
+    let left = (offered c.loop-block.self.world s).world in
+    λ more.
+    let rest = map slip c.next.new.self.rest.items ++ more in
+    ap (prepend c.offer.new.text.items) (ap (λ w. tell rest w c.offer.new.self.place) c.in_ok-refusal.ensures.world ∙ tell_alike rest (unnoted left) left c.offer.new.self.place (record { first = refl; limits = refl; history = refl; waiting = refl }) refl)
+    ∙ told_on s rest c.loop-block.self.world left c.loop-block.self.place c.offer.new.self.place
     c.loop-block.text.items c.offer.new.text.items _
-    (subst (IsTaken (slip c.in-Some.block) c.loop-block.self.world c.offer.new.self.world c.loop-block.self.place c.offer.new.self.place c.loop-block.text.items c.offer.new.text.items)
-    (none_of c.in_ok-refusal.refusal c.is_some.result c.is_some.ensures c.if-is_some.false) c.in_ok-refusal.ensures)
+    (subst (IsTaken s c.loop-block.self.world left c.loop-block.self.place c.offer.new.self.place c.loop-block.text.items c.offer.new.text.items)
+    (none_of c.in_ok-refusal.refusal c.is_some.result c.is_some.ensures c.if-is_some.false) c.in_ok-refusal.ensures.taken)
     (ap (λ l. prepend c.loop-block.text.items (tell (map slip l ++ more) c.loop-block.self.world c.loop-block.self.place)) (sym split) ∙ c.loop-block.invariant more)
 
 pub returns-then-is_some : goal.returns-then-is_some
 returns-then-is_some c =
     let split : c.loop-block.block-iterator.rest.items ≡ c.in-Some.block ∷ c.next.new.self.rest.items = search rules in
-    λ more. tells_refused c.in_ok-refusal.refusal c.is_some.result (slip c.in-Some.block) (map slip c.next.new.self.rest.items ++ more) more c.loop-block.self.world c.offer.new.self.world
-    c.loop-block.self.place c.offer.new.self.place c.loop-block.text.items c.offer.new.text.items _ c.is_some.ensures c.if-is_some.true c.in_ok-refusal.ensures
+    λ more. tells_refused c.in_ok-refusal.refusal c.is_some.result (slip c.in-Some.block) (map slip c.next.new.self.rest.items ++ more) more c.loop-block.self.world (offered c.loop-block.self.world (slip c.in-Some.block)).world
+    c.loop-block.self.place c.offer.new.self.place c.loop-block.text.items c.offer.new.text.items _ c.is_some.ensures c.if-is_some.true c.in_ok-refusal.ensures.taken
     (ap (λ l. prepend c.loop-block.text.items (tell (map slip l ++ more) c.loop-block.self.world c.loop-block.self.place)) (sym split) ∙ c.loop-block.invariant more)
 
 pub returns : goal.returns
