@@ -20,15 +20,16 @@ const LINES: [&[u8]; 7] = [
     b"FIRE BLOCK 3 c3 2 c2 2 0 AQ==\n",
 ];
 
-/// What stands written once so many of the lines have come.
-const WRITTEN: [&[u8]; 6] = [
-    b"",
-    b"",
-    b"newfinal 1 a1\n",
-    b"newfinal 1 a1\nnew 2 b2\n",
-    b"newfinal 1 a1\nnew 2 b2\nnew 3 b3\n",
-    b"newfinal 1 a1\nnew 2 b2\nnew 3 b3\nundo 3 b3\nundo 2 b2\nnewfinal 2 c2\n",
-];
+/// What stands written once none, one, two, three and four of the blocks have come.
+const NOTHING: &[u8] = b"";
+
+const ONE: &[u8] = b"newfinal 1 a1\n";
+
+const TWO: &[u8] = b"newfinal 1 a1\nnew 2 b2\n";
+
+const THREE: &[u8] = b"newfinal 1 a1\nnew 2 b2\nnew 3 b3\n";
+
+const ALL: &[u8] = b"newfinal 1 a1\nnew 2 b2\nnew 3 b3\nundo 3 b3\nundo 2 b2\nnewfinal 2 c2\n";
 
 /// The error line of the block that ends the run.
 const CONFLICT: &[u8] = b"fire: conflict finality held 2 c2 offered 4 b4\n";
@@ -38,6 +39,9 @@ const READ_FAULT: &[u8] = b"fire: read fault\n";
 const WRITE_FAULT: &[u8] = b"fire: write fault\n";
 
 const STEPS: &[&[u8]] = &[b"steps"];
+
+/// Words that name no command.
+const STOP: &[&[u8]] = &[b"stop"];
 
 /// The text of a cursor, and one that is cut.
 const CURSOR: &[&[u8]] = &[b"cursor", b"--text", b"YzE6MTc6MTphMToxOmExLzcwMC8x"];
@@ -149,24 +153,24 @@ type Row = (
 );
 
 const ROWS: [Row; 18] = [
-    (STEPS, Faults(NEVER, NEVER, NEVER), 6, WRITTEN[5], CONFLICT),
-    (STEPS, Faults(0, NEVER, NEVER), 3, WRITTEN[0], READ_FAULT),
-    (STEPS, Faults(1, NEVER, NEVER), 3, WRITTEN[1], READ_FAULT),
-    (STEPS, Faults(2, NEVER, NEVER), 3, WRITTEN[2], READ_FAULT),
-    (STEPS, Faults(3, NEVER, NEVER), 3, WRITTEN[3], READ_FAULT),
-    (STEPS, Faults(4, NEVER, NEVER), 3, WRITTEN[4], READ_FAULT),
-    (STEPS, Faults(5, NEVER, NEVER), 3, WRITTEN[5], READ_FAULT),
-    (STEPS, Faults(NEVER, 0, NEVER), 4, WRITTEN[1], WRITE_FAULT),
-    (STEPS, Faults(NEVER, 1, NEVER), 4, WRITTEN[2], WRITE_FAULT),
-    (STEPS, Faults(NEVER, 2, NEVER), 4, WRITTEN[3], WRITE_FAULT),
-    (STEPS, Faults(NEVER, 3, NEVER), 4, WRITTEN[4], WRITE_FAULT),
-    (STEPS, Faults(NEVER, NEVER, 0), 6, WRITTEN[5], b""),
-    (STEPS, Faults(2, NEVER, 0), 3, WRITTEN[2], b""),
-    (STEPS, Faults(NEVER, 1, 0), 4, WRITTEN[2], b""),
-    (&[b"stop"], Faults(NEVER, NEVER, 0), 2, b"", b""),
-    (CURSOR, Faults(NEVER, 0, NEVER), 4, b"", WRITE_FAULT),
-    (CURSOR, Faults(NEVER, 0, 0), 4, b"", b""),
-    (MALFORMED, Faults(NEVER, NEVER, 0), 16, b"", b""),
+    (STEPS, Faults(NEVER, NEVER, NEVER), 6, ALL, CONFLICT),
+    (STEPS, Faults(0, NEVER, NEVER), 3, NOTHING, READ_FAULT),
+    (STEPS, Faults(1, NEVER, NEVER), 3, NOTHING, READ_FAULT),
+    (STEPS, Faults(2, NEVER, NEVER), 3, ONE, READ_FAULT),
+    (STEPS, Faults(3, NEVER, NEVER), 3, TWO, READ_FAULT),
+    (STEPS, Faults(4, NEVER, NEVER), 3, THREE, READ_FAULT),
+    (STEPS, Faults(5, NEVER, NEVER), 3, ALL, READ_FAULT),
+    (STEPS, Faults(NEVER, 0, NEVER), 4, NOTHING, WRITE_FAULT),
+    (STEPS, Faults(NEVER, 1, NEVER), 4, ONE, WRITE_FAULT),
+    (STEPS, Faults(NEVER, 2, NEVER), 4, TWO, WRITE_FAULT),
+    (STEPS, Faults(NEVER, 3, NEVER), 4, THREE, WRITE_FAULT),
+    (STEPS, Faults(NEVER, NEVER, 0), 6, ALL, NOTHING),
+    (STEPS, Faults(2, NEVER, 0), 3, ONE, NOTHING),
+    (STEPS, Faults(NEVER, 1, 0), 4, ONE, NOTHING),
+    (STOP, Faults(NEVER, NEVER, 0), 2, NOTHING, NOTHING),
+    (CURSOR, Faults(NEVER, 0, NEVER), 4, NOTHING, WRITE_FAULT),
+    (CURSOR, Faults(NEVER, 0, 0), 4, NOTHING, NOTHING),
+    (MALFORMED, Faults(NEVER, NEVER, 0), 16, NOTHING, NOTHING),
 ];
 
 #[test]
@@ -186,10 +190,10 @@ fn pieces_make_no_difference(rt: HostRuntime) -> Result<(), Fail> {
     let never = Faults(NEVER, NEVER, NEVER);
     for cut in 1..length {
         let ran = run(alloc, STEPS, Vec::from_slice(alloc, &[cut])?, never)?;
-        assert!(rt; ran.is(6, WRITTEN[5], CONFLICT));
+        assert!(rt; ran.is(6, ALL, CONFLICT));
     }
     let ran = run(alloc, STEPS, vec![in alloc; 1; length]?, never)?;
-    assert!(rt; ran.is(6, WRITTEN[5], CONFLICT));
+    assert!(rt; ran.is(6, ALL, CONFLICT));
     Ok(())
 }
 

@@ -12,8 +12,8 @@ returns-in_ok-place-in-Some c =
     let t = c.self.inside.tree.history in
     let tip = subst (λ v. slip_of v.history c.final_tip.result ≡ final_tip v.history) (sym c.self.view_is) c.final_tip.ensures.tip in
     let last = ap (option_map ref_of) (sym c.slip.ensures) ∙ ap (λ o. option_map ref_of (slip_of t o)) (sym c.in-Some.is) in
-    subst (λ v. c.in_ok-place.place ≡ opening v.history c.args.start) c.self.view_is
-    (opening_is t c.args.start _ _ c.in_ok-place.place tip c.last_below.ensures.value (c.in_ok-place.ensures.end ∙ last) (c.in_ok-place.ensures.lib ∙ last))
+    subst (λ v. c.in_ok-place-in-Some.place ≡ opening v.history c.args.start) c.self.view_is
+    (opening_is t c.args.start _ _ c.in_ok-place-in-Some.place tip c.last_below.ensures.value (c.in_ok-place-in-Some.ensures.end ∙ last) (c.in_ok-place-in-Some.ensures.lib ∙ last))
 
 pub returns-in-None : goal.returns-in-None
 returns-in-None c =
