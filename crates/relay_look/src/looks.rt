@@ -155,12 +155,7 @@ fn stop_passed(stop: Option<u64>, end: &Option<BlockRef>) -> Option<u64>
 }
 
 /// The steps from a place, with no count of links.
-fn batch_at(
-    db: &ForkDb,
-    place: &Place,
-    mode: Mode,
-    stop: Option<u64>,
-) -> Result<Batch, AllocError>
+fn batch_at(db: &ForkDb, place: &Place, mode: Mode, stop: Option<u64>) -> Result<Batch, AllocError>
     requires fits { PlaceFits db.now.history place.now.end place.now.lib }
     requires ahead { stop_passed_in stop place.now.end ≡ None }
     ensures given { IfOk result (λ b. IsGiven db.now.history db.now.history mode stop b) }
