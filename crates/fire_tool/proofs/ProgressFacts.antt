@@ -1,5 +1,5 @@
 -- A run that takes a further piece of its input.
-use Rattle.std.proofs.Common.{◌≡◌, ◌≢◌, ◌++◌, ℕ, Unit, List, [], Option, None, Some, MatchOption, Result, Ok, Err, OnErr, refl, sym, ◌∙◌, ap, subst, append_assoc}
+use Rattle.std.proofs.Common.{◌≡◌, ◌++◌, ℕ, List, [], Option, None, Some, MatchOption, Result, Ok, Err, OnErr, refl, sym, ◌∙◌, ap, subst, append_assoc}
 use Rattle.std.proofs.lemmas.List.{append-nil}
 use mathlib.Core.List.{IsPrefix}
 use Rattle.block_record.specs.declared.blocks.Slip.{Slip}
@@ -7,8 +7,7 @@ use Rattle.chain_model.specs.declared.places.Place.{Place}
 use Rattle.chain_model.specs.Places.{no_place}
 use Rattle.relay_model.specs.Worlds.{World}
 use Rattle.fire_lines.specs.declared.faults.LineFault.{LineFault}
-use Rattle.fire_lines.specs.declared.faults.LineFault.TheVariants.{Mem}
-use Rattle.fire_lines.specs.Reader.{ReaderState, state_after, Answers, IsRead}
+use Rattle.fire_lines.specs.Reader.{ReaderState}
 use Rattle.fire_lines.specs.Text.{received}
 use Rattle.fire_lines.specs.Laws.{TextGoesOn}
 use Rattle.step_text.specs.declared.refusals.Refusal.{Refusal}
@@ -96,14 +95,3 @@ piece_taken law first input told piece old new before after from to none blocks 
     subst (λ (l : List ℕ). (later : List Slip) → Tells (prepend l (tell (blocks ++ later) before from)) later refused text after to) no_text tells in
     subst (λ (e : Option RunEnd). MatchOption e (IsUnderWay first (input ++ piece) (told ++ text) new after to) (λ x. IsEnded first (input ++ piece) (told ++ text) (ending_seen x))) (sym is)
     (taken first input told piece old new before after from to blocks text law refused fault r u t)
-
--- what a reader says of a piece, by the limit of a run
-pub piece_read : (old now : ReaderState) (input piece : List ℕ) (before after : List Slip) (result : Result Unit LineFault) (fault : Option LineFault)
-    → ((text : List ℕ) → old ≡ state_after old.max text → result ≢ Err Mem → IsRead old.max text piece result now before after)
-    → (result ≢ Err Mem) → ((found : Option LineFault) → Answers result found → found ≡ fault) → old ≡ state_after line_max input
-    → ReadsPiece input piece before after fault now
-piece_read old now input piece before after result fault read ample said is =
-    let most : old.max ≡ line_max = ap (λ (r : ReaderState). r.max) is in
-    let begun : old ≡ state_after old.max input = subst (λ (m : ℕ). old ≡ state_after m input) (sym most) is in
-    let got : IsRead line_max input piece result now before after = subst (λ (m : ℕ). IsRead m input piece result now before after) most (read input begun ample) in
-    record { more = got.more; further = got.further; blocks = got.grows; fault_is = said (received line_max (input ++ piece)).fault got.answer; read = got.state }

@@ -224,10 +224,10 @@ none_of None b e f = refl
 none_of (Some r) b e f = absurd (grind arith)
 
 -- a refusal ends what is told
-pub tells_refused : (o : Option Refusal) (b : Bool) (s : Slip) (slips more : List Slip) (old new : World) (from to : Place) (before after : List ℕ) (all : Told) → b ≡ is_some o → b ≡ true
-    → IsTaken s old new from to before after o → prepend before (tell (s ∷ slips) old from) ≡ all → Tells all more o after new to
-tells_refused None b s slips more old new from to before after all eb t taken h = absurd (grind arith)
-tells_refused (Some r) b s slips more old new from to before after all eb t taken h = told_refusal s slips old new from to before after all r taken h
+pub tells_refused : (o : Option Refusal) (b : Bool) (s : Slip) (slips more : List Slip) (old new left : World) (from to : Place) (before after : List ℕ) (all : Told) → b ≡ is_some o → b ≡ true
+    → IsTaken s old new from to before after o → prepend before (tell (s ∷ slips) old from) ≡ all → Tells all more o after left to
+tells_refused None b s slips more old new left from to before after all eb t taken h = absurd (grind arith)
+tells_refused (Some r) b s slips more old new left from to before after all eb t taken h = told_refusal s slips old new from to before after all r taken h
 
 pub nothing_left : {X : Type 0} (xs : List X) (n : ℕ) → n ≡ length xs → n ≡ 0 → xs ≡ []
 nothing_left [] n e z = refl

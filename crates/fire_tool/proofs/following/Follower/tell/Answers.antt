@@ -31,7 +31,7 @@ pub returns-then-is_some : goal.returns-then-is_some
 returns-then-is_some c =
     let split : c.loop-block.block-iterator.rest.items ≡ c.in-Some.block ∷ c.next.new.self.rest.items = search rules in
     λ more. tells_refused c.in_ok-refusal.refusal c.is_some.result (slip c.in-Some.block) (map slip c.next.new.self.rest.items ++ more) more c.loop-block.self.world (offered c.loop-block.self.world (slip c.in-Some.block)).world
-    c.loop-block.self.place c.offer.new.self.place c.loop-block.text.items c.offer.new.text.items _ c.is_some.ensures c.if-is_some.true c.in_ok-refusal.ensures.taken
+    c.offer.new.self.world c.loop-block.self.place c.offer.new.self.place c.loop-block.text.items c.offer.new.text.items _ c.is_some.ensures c.if-is_some.true c.in_ok-refusal.ensures.taken
     (ap (λ l. prepend c.loop-block.text.items (tell (map slip l ++ more) c.loop-block.self.world c.loop-block.self.place)) (sym split) ∙ c.loop-block.invariant more)
 
 pub returns : goal.returns
