@@ -227,12 +227,11 @@ struct NotingSink<'a> {
     faults: u64,
 }
 
-impl<'a> NotingSink<'a> {
-    fn note(&mut self, piece: &[u8]) -> Result<(), AllocError> {
-        self.notes.push(b'0'.saturating_add(self.reads.get()))?;
-        self.notes.extend_from_slice(piece)?;
-        Ok(())
-    }
+/// Appends a piece, after the number of reads as a digit.
+fn note(notes: &mut Vec<u8>, reads: u8, piece: &[u8]) -> Result<(), AllocError> {
+    notes.push(b'0'.saturating_add(reads))?;
+    notes.extend_from_slice(piece)?;
+    Ok(())
 }
 
 impl<'a> Sink for NotingSink<'a> {
@@ -243,7 +242,7 @@ impl<'a> Sink for NotingSink<'a> {
     ghost write_faults = { λ s. s.faults };
 
     fn write(&mut self, piece: &[u8]) -> Result<usize, Failed> {
-        if self.note(piece).is_err() {
+        if note(&mut self.notes, self.reads.get(), piece).is_err() {
             self.faults = self.faults.saturating_add(1);
             return Err(Failed);
         }
