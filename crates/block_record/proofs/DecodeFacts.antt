@@ -10,7 +10,8 @@ use Rattle.block_record.specs.declared.faults.RecordFault.TheVariants.{BadRecord
 use Rattle.block_record.specs.Words.{Unless}
 use Rattle.block_record.specs.Records.{Fields, Field, place, version_at, number_at, parent_num_at, id_at, payload_at, digest_at, record_fault, number_text, id_text, payload_text, text_of, old_text_of, fields_of, IsRecordable, IsRecordText}
 use Rattle.block_record.specs.Reading.{◌>>=◌, field_or, read, Numbers, read_numbers, read_fields, Gives, bad_place}
-use Rattle.block_record.proofs.FieldFacts.{IsBytes, Takes, Takes-then, IsVersion, version_takes, wide64, number_takes, parent_num_takes, id_takes, payload_takes, digest_text, digest_takes}
+use Rattle.block_record.specs.Texts.{IsBytes}
+use Rattle.block_record.proofs.FieldFacts.{Takes, Takes-then, IsVersion, version_takes, wide64, number_takes, parent_num_takes, id_takes, payload_takes, digest_text, digest_takes}
 use Rattle.block_record.proofs.ReadingFacts.{with_time, with_lib_num, with_parent_num, with_num, with_digest, with_payload, with_parent_id, with_id, with_numbers, with_version, fault_of, record_fault_is}
 use Rattle.block_record.proofs.public.RecordFacts.{parts, text_of-parts, old_text_of-parts, same_block, record_again}
 

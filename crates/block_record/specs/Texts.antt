@@ -1,7 +1,11 @@
--- Which texts are ids, block types and names of readers.
-use Rattle.std.specs.Prelude.{ℕ, Bool, ◌==◌, ◌||◌, ◌&&◌, nat_lt, nat_le, List, length, IsTrue}
+-- Which lists are bytes, and which texts are ids, block types and names of readers.
+use Rattle.std.specs.Prelude.{ℕ, Bool, ◌==◌, ◌<◌, ◌||◌, ◌&&◌, nat_lt, nat_le, List, length, slice_index, IsTrue}
 use Rattle.std.specs.List.{list_all}
 use Rattle.std.specs.Char.{is_ascii_alphanumeric, is_ascii_lowercase, is_ascii_digit}
+
+-- each element is a byte
+abbrev pub IsBytes : List ℕ → Type 0
+IsBytes bytes = (i : ℕ) → slice_index bytes i < 256
 
 -- an ASCII letter, a digit or an underscore
 abbrev pub is_id_byte : ℕ → Bool

@@ -11,7 +11,8 @@ use Rattle.dbin_file.specs.declared.faults.DbinFault.TheVariants.{NotDbin, Mem}
 use Rattle.dbin_file.specs.Header.{type_length, type_bytes, mark_fault, version_fault, length_fault, type_fault, first_of, header_fault, header_size, is_hidden, IsInHeader}
 use Rattle.dbin_file.specs.Messages.{split}
 use Rattle.dbin_file.specs.Contents.{Contents, contents, with_header, with_messages, told, place, rest_fault}
-use Rattle.dbin_file.specs.Reader.{ReaderState, kept, state_of, state_after, found, at_after, message_fault, with_piece, without_memory, Answers, GrowsBy, IsRead, IsCutShort, IsCutShortAt}
+use Rattle.block_record.specs.Words.{Answers, GrowsBy}
+use Rattle.dbin_file.specs.Reader.{ReaderState, kept, state_of, state_after, found, at_after, message_fault, with_piece, without_memory, IsRead, IsCutShort, IsCutShortAt}
 use Rattle.dbin_file.proofs.MessageFacts.{with_front, split-append, split-within}
 
 -- a header that is all there
@@ -368,10 +369,11 @@ pub type_text : (text h t : List ℕ) (n : ℕ) → Whole text n → h ≡ take 
 type_text text h t n w front is =
     is ∙ take_rest h 7 ∙ ap (drop 7) (front ∙ ap (λ (k : ℕ). take k text) w.size) ∙ drop-take 7 (type_length text) text
 
-none_before : (l : List ℕ) → position is_hidden l ≡ None → length l ≤ position_or_len is_hidden l
-none_before l none = by_test (ltb (position_or_len is_hidden l) (length l)) refl none
+-- where no element passes a test, each stands before the first that does
+pub none_before : {A : Type 0} (p : A → Bool) (l : List A) → position p l ≡ None → length l ≤ position_or_len p l
+none_before p l none = by_test (ltb (position_or_len p l) (length l)) refl none
   where
-    by_test : (t : Bool) → ltb (position_or_len is_hidden l) (length l) ≡ t → cond t (Some (position_or_len is_hidden l)) None ≡ None → length l ≤ position_or_len is_hidden l
+    by_test : (t : Bool) → ltb (position_or_len p l) (length l) ≡ t → cond t (Some (position_or_len p l)) None ≡ None → length l ≤ position_or_len p l
     by_test true e none = absurd cc
     by_test false e none = ltb-false _ _ e
 
@@ -384,7 +386,7 @@ all_shown (b ∷ l) none = by_test (all_shown l) (is_visible_byte b) refl
     by_test more false e = absurd (let n = rw e at none in omega (arith, n))
 
 none_hidden : (l : List ℕ) → position is_hidden l ≡ None → list_all is_visible_byte l ≡ true
-none_hidden l none = all_shown l (none_before l none)
+none_hidden l none = all_shown l (none_before is_hidden l none)
 
 pub first_none : (o : Option DbinFault) (more : List (Option DbinFault)) → first_of (o ∷ more) ≡ None → (o ≡ None) × (first_of more ≡ None)
 first_none None more e = (refl, e)

@@ -4,7 +4,8 @@ use Rattle.dbin_file.specs.declared.faults.DbinFault.{DbinFault}
 use Rattle.dbin_file.specs.declared.faults.DbinFault.TheVariants.{MessageTooLong}
 use Rattle.dbin_file.specs.Messages.{message_length, has_message, Split, split, is_too_long, is_partial, IsWithin}
 use Rattle.dbin_file.specs.Contents.{told, rest_fault}
-use Rattle.dbin_file.specs.Reader.{ReaderState, kept, found, at_after, message_fault, with_piece, without_memory, Answers, IsCutShortAt}
+use Rattle.block_record.specs.Words.{Answers}
+use Rattle.dbin_file.specs.Reader.{ReaderState, kept, found, at_after, message_fault, with_piece, without_memory, IsCutShortAt}
 use Rattle.std.specs.Result.{IsErrAnd}
 use Rattle.std.proofs.lemmas.List.{append-nil, take-append-drop}
 use Rattle.dbin_file.proofs.MessageFacts.{partial_is, split-partial, split-too_long, split-whole, with_front, split-append, split-within, too_long, too_long-append, message_length-append}

@@ -3,7 +3,8 @@ use Rattle.std.proofs.Common.{◌≡◌, ℕ, zero, suc, ◌+◌, ◌≤◌, ◌
 use Rattle.std.specs.Prelude.{codes}
 use Rattle.std.specs.Option.{option_map}
 use Rattle.std.specs.List.{position, position_or_len, flat_map, zip}
-use Rattle.block_record.specs.Texts.{is_type_text}
+use Rattle.block_record.specs.Texts.{IsBytes, is_type_text}
+use Rattle.block_record.proofs.public.ListFacts.{IsBytes-drop, IsBytes-take}
 use Rattle.std.specs.Int.{w16, w32, to_be_bytes}
 use Rattle.std.proofs.lemmas.Bool.{le-ltb, ltb-false, eqb-true, cases_lt}
 use Rattle.std.proofs.lemmas.List.{append-nil, nil_from_length, take-append-drop, drop-drop, get_or-drop, get_or-take, get_or_past}
@@ -15,19 +16,9 @@ use Rattle.dbin_file.specs.Header.{header_text, type_length, type_bytes, mark_fa
 use Rattle.dbin_file.specs.Messages.{AreMessages, message_max, message_text, message_length, has_message, first_message, Split, onto, split_after, split}
 use Rattle.dbin_file.specs.Contents.{Contents, contents, container_text, with_messages, place}
 use Rattle.dbin_file.specs.Reader.{ReaderState, kept, cut_fault}
-use Rattle.dbin_file.specs.Laws.{IsBytes, IsSpelled, ReadIsSpelled, IsContainer, WholeIsContainer}
+use Rattle.dbin_file.specs.Laws.{IsSpelled, ReadIsSpelled, IsContainer, WholeIsContainer}
 use Rattle.dbin_file.proofs.MessageFacts.{has}
-use Rattle.dbin_file.proofs.HeaderFacts.{Whole, whole, typed, is_whole, is_cut, is_bad, first_none}
-
-IsBytes-drop : (n : ℕ) (bytes : List ℕ) → IsBytes bytes → IsBytes (drop n bytes)
-IsBytes-drop n bytes h i = rw get_or-drop (h (n + i))
-
-IsBytes-take : (n : ℕ) (bytes : List ℕ) → IsBytes bytes → IsBytes (take n bytes)
-IsBytes-take n bytes h i =
-    elim (cases_lt i n) [
-      | inl lt ↦ rw (get_or-take n bytes i 0 lt) (h i)
-      | inr le ↦ rw (get_or_past (take n bytes) i 0 (omega (arith, length-take n bytes))) (omega arith)
-    ]
+use Rattle.dbin_file.proofs.HeaderFacts.{Whole, whole, typed, is_whole, is_cut, is_bad, first_none, none_before}
 
 -- ---- the messages
 
@@ -81,13 +72,6 @@ messages_are zero (b ∷ bytes) is fits = by_test (λ n within. messages_are n b
 
 -- ---- the header
 
-first_place : (l : List (ℕ × ℕ)) → position is_other l ≡ None → length l ≤ position_or_len is_other l
-first_place l none = by_test (ltb (position_or_len is_other l) (length l)) refl none
-  where
-    by_test : (t : Bool) → ltb (position_or_len is_other l) (length l) ≡ t → cond t (Some (position_or_len is_other l)) None ≡ None → length l ≤ position_or_len is_other l
-    by_test true e none = absurd cc
-    by_test false e none = ltb-false _ _ e
-
 -- the first of some pairs is no pair of two numbers, and none of the others is
 same_first : (a b : ℕ) (l : List (ℕ × ℕ)) → length ((a, b) ∷ l) ≤ position_or_len is_other ((a, b) ∷ l) → (a ≡ b) × (length l ≤ position_or_len is_other l)
 same_first a b l none = by_test (eqb a b) refl
@@ -105,7 +89,7 @@ mark_is : (a b c d : ℕ) (rest : List ℕ) → mark_fault (a ∷ b ∷ c ∷ d 
 mark_is a b c d rest good =
     let l : List (ℕ × ℕ) = (a, 100) ∷ (b, 98) ∷ (c, 105) ∷ (d, 110) ∷ [] in
     let none : option_map NotDbin (position is_other l) ≡ None = ap (λ (x : List (ℕ × ℕ)). option_map NotDbin (position is_other ((a, 100) ∷ (b, 98) ∷ (c, 105) ∷ (d, 110) ∷ x))) (sym (zip_none rest)) ∙ good in
-    let one = same_first a 100 ((b, 98) ∷ (c, 105) ∷ (d, 110) ∷ []) (first_place l (not_there (position is_other l) none)) in
+    let one = same_first a 100 ((b, 98) ∷ (c, 105) ∷ (d, 110) ∷ []) (none_before is_other l (not_there (position is_other l) none)) in
     let two = same_first b 98 ((c, 105) ∷ (d, 110) ∷ []) one.1 in
     let three = same_first c 105 ((d, 110) ∷ []) two.1 in
     let four = same_first d 110 [] three.1 in

@@ -1,6 +1,6 @@
 -- What a container that was written is read as, as a law.
-use Rattle.std.specs.Prelude.{ℕ, ◌≡◌, ◌<◌, List, [], ◌++◌, None, Some, slice_index}
-use Rattle.block_record.specs.Texts.{IsTypeName}
+use Rattle.std.specs.Prelude.{◌≡◌, List, [], ◌++◌, None, Some}
+use Rattle.block_record.specs.Texts.{IsBytes, IsTypeName}
 use Rattle.dbin_file.specs.Messages.{AreMessages}
 use Rattle.dbin_file.specs.Contents.{contents, container_text}
 use Rattle.dbin_file.specs.Reader.{state_after, end_fault}
@@ -15,10 +15,6 @@ pub record IsReadAs (text block_type : List ℕ) (messages : List (List ℕ)) : 
 -- a container of a type and of messages, none of them too long, is read as these
 abbrev pub ContainerIsRead : Type 0
 ContainerIsRead = (block_type : List ℕ) (messages : List (List ℕ)) → IsTypeName block_type → AreMessages messages → IsReadAs (container_text block_type messages) block_type messages
-
--- each element of a text is a byte
-abbrev pub IsBytes : List ℕ → Type 0
-IsBytes text = (i : ℕ) → slice_index text i < 256
 
 -- a text is the container of this type and of the messages that are read in it, and what follows them
 pub record IsSpelled (text block_type : List ℕ) : Type 0 where

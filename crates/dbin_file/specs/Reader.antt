@@ -1,6 +1,7 @@
 -- How contracts see a reader of containers, and what a feed leaves.
-use Rattle.std.specs.Prelude.{ℕ, ◌≡◌, ◌≢◌, ◌==◌, ◌-◌, ◌+◌, List, [], ◌∷◌, ◌++◌, length, Option, None, Some, Result, Err, MatchResult, if◌then◌else◌}
+use Rattle.std.specs.Prelude.{ℕ, ◌≡◌, ◌≢◌, ◌==◌, ◌-◌, ◌+◌, List, [], ◌∷◌, ◌++◌, length, Option, None, Some, Result, Err, if◌then◌else◌}
 use mathlib.Core.List.{IsPrefix}
+use Rattle.block_record.specs.Words.{Answers, GrowsBy}
 use Rattle.dbin_file.specs.declared.faults.DbinFault.{DbinFault}
 use Rattle.dbin_file.specs.declared.faults.DbinFault.TheVariants.{Truncated, Mem}
 use Rattle.dbin_file.specs.Header.{first_of}
@@ -63,14 +64,6 @@ without_memory r = record r { fault = Some Mem; partial = [] }
 -- a fact, unless there was no memory
 abbrev pub UnlessMem : {T : Type 0} → Result T DbinFault → Type 0 → Type 0
 UnlessMem result P = result ≢ Err Mem → P
-
--- the answer is this fault, or Ok where there is none
-abbrev pub Answers : {T : Type 0} → Result T DbinFault → Option DbinFault → Type 0
-Answers result fault = MatchResult result (λ _. fault ≡ None) (λ f. fault ≡ Some f)
-
--- messages grew by these
-abbrev pub GrowsBy : List (List ℕ) → List (List ℕ) → List (List ℕ) → Type 0
-GrowsBy old new messages = new ≡ old ++ messages
 
 -- these are the messages that a text has with a further piece, beyond those that it has without
 abbrev pub AreFurther : List ℕ → List ℕ → List (List ℕ) → Type 0

@@ -5,7 +5,8 @@ ghost use Rattle.std.specs.Option.{option_copied, is_some};
 ghost use Rattle.dbin_file.specs.Messages.{AreMessages, IsWithin, is_partial};
 ghost use Rattle.dbin_file.specs.Contents.{contents, container_text, message_place};
 ghost use Rattle.dbin_file.specs.Header.{IsInHeader};
-ghost use Rattle.dbin_file.specs.Reader.{state_after, resumed, end_fault, found, message_fault, with_piece, without_memory, UnlessMem, Answers, GrowsBy, IsRead, IsCutShort, IsCutShortAt};
+ghost use Rattle.block_record.specs.Words.{Answers, GrowsBy};
+ghost use Rattle.dbin_file.specs.Reader.{state_after, resumed, end_fault, found, message_fault, with_piece, without_memory, UnlessMem, IsRead, IsCutShort, IsCutShortAt};
 
 use crate::faults::DbinFault;
 use crate::headers::{TYPE_AT, header_fault, header_size};

@@ -11,7 +11,8 @@ use Rattle.fire_lines.specs.declared.faults.LineFault.{LineFault}
 use Rattle.fire_lines.specs.declared.faults.LineFault.TheVariants.{Mem, BadField}
 use Rattle.block_record.specs.declared.blocks.Block.{Block}
 use Rattle.block_record.specs.Slips.{slip}
-use Rattle.fire_lines.specs.Fields.{field, result_map, id_of, parent_num_of, payload_of, slip_of_fields, at_line, ◌>>=◌}
+use Rattle.block_record.specs.Words.{result_map}
+use Rattle.fire_lines.specs.Fields.{field, id_of, parent_num_of, payload_of, slip_of_fields, at_line, ◌>>=◌}
 
 -- what is left to read of the fields, once those before were read
 abbrev pub after_payload : List (List ℕ) → ℕ → List ℕ → ℕ → List ℕ → ℕ → ℕ → List ℕ → Result Slip ℕ

@@ -9,7 +9,8 @@ use Rattle.fire_lines.specs.declared.faults.LineFault.TheVariants.{Mem}
 use Rattle.fire_lines.specs.Parts.{parts, last_part, tail_of, without_cr}
 use Rattle.fire_lines.specs.Line.{Saying, passes, opens, brings, is_bad, says}
 use Rattle.fire_lines.specs.Text.{Received, ends, after, then_receive, tail_fault, next_line, receive, received}
-use Rattle.fire_lines.specs.Reader.{ReaderState, state_after, kept, kept_after, kind_after, slips_of, fault_of, line_says, counted, with_line, in_progress, with_tail, Answers, AreFurther, without_memory, IsRead, IsCutShort}
+use Rattle.block_record.specs.Words.{Answers}
+use Rattle.fire_lines.specs.Reader.{ReaderState, state_after, kept, kept_after, kind_after, slips_of, fault_of, line_says, counted, with_line, in_progress, with_tail, AreFurther, without_memory, IsRead, IsCutShort}
 use Rattle.fire_lines.proofs.PieceFacts.{parts_some, parts-onto, parts-tail, cut_whole, cut_again, tail_of-append, receive-cons, received-append, received-stopped}
 
 -- where the line in progress stands makes no difference once it is taken

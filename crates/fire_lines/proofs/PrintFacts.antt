@@ -1,15 +1,11 @@
 -- What printed lines are read as.
 use Rattle.std.proofs.Common.{◌≡◌, ◌+◌, ◌-◌, ◌<◌, ◌≤◌, ◌^◌, ℕ, zero, suc, Bool, true, false, ◌&&◌, ◌||◌, eqb, cond, List, [], ◌∷◌, ◌++◌, length, drop, get_or, Option, None, Some, Result, Ok, refl, sym, ◌∙◌, ap, arith, append_assoc, length-append, replicate, option_and_then, leb, map}
-use Rattle.std.specs.Prelude.{codes, nat_lt, nat_le, slice_index, ◌==◌}
+use Rattle.std.specs.Prelude.{codes, nat_lt, nat_le, ◌==◌}
 use Rattle.std.specs.List.{list_all, flat_map, AllByRecursion}
 use Rattle.std.specs.Fmt.{decimal}
 use Rattle.std.specs.Result.{result_ok}
-use Rattle.std.specs.Str.{all_ascii_digits}
 use Rattle.std.specs.Char.{is_ascii_digit}
-use Rattle.std.specs.Str.Parse.{digits_value}
-use Rattle.std.proofs.lemmas.Bool.{and_left, and_parts, and_right, ne_eqb, le-ltb, le-leb, lt-ltb, ltb-true, eqb-true, false≢true}
-use Rattle.std.proofs.lemmas.Str.Parse.{IsNumeralModel, numerals_by_value, tells_all_ascii_digits}
-use Rattle.std.proofs.lemmas.Fmt.{decimal_nonempty, first_decimal, decimal_digit, digits_decimal, digits_value-decimal}
+use Rattle.std.proofs.lemmas.Bool.{and_parts, ne_eqb, le-ltb, le-leb, ltb-true, eqb-true, false≢true}
 use Rattle.base64.specs.declared.decode.DecodeError.{DecodeError}
 use Rattle.base64.specs.GeneralPurpose.{decode_of, encode_of, IsBytes}
 use Rattle.base64.specs.Engines.{standard}
@@ -23,7 +19,7 @@ use Rattle.block_record.specs.declared.blocks.Version.{Version}
 use Rattle.block_record.specs.declared.blocks.Version.TheVariants.{V1, V3}
 use Rattle.block_record.specs.Number.{number_of}
 use Rattle.block_record.specs.Parents.{is_parent_num}
-use Rattle.block_record.proofs.public.NumberTexts.{number_of-decimal}
+use Rattle.block_record.proofs.public.NumberTexts.{decimal_digits, number_of-decimal}
 use Rattle.block_record.specs.Slips.{slip}
 use Rattle.block_record.specs.Texts.{is_id_text, is_id_byte, is_type_text, is_visible_byte}
 use Rattle.fire_lines.specs.Parts.{parts, words, without_cr}
@@ -85,15 +81,8 @@ word-test p text space lf cr all = record {
   no_cr = none-test p 13 text cr all;
 }
 
-numerals : IsNumeralModel (λ ds. all_ascii_digits ds ≡ true) (digits_value 10)
-numerals = numerals_by_value _ tells_all_ascii_digits
-
-digits_all : (l : List ℕ) → all_ascii_digits l ≡ list_all is_ascii_digit l
-digits_all [] = refl
-digits_all (x ∷ l) = ap (λ t. is_ascii_digit x && t) (digits_all l)
-
 word-decimal : (n : ℕ) → n < 2 ^ 64 → IsWord (decimal n)
-word-decimal n small = word-test is_ascii_digit (decimal n) refl refl refl (sym (digits_all (decimal n)) ∙ digits_decimal numerals n small)
+word-decimal n small = word-test is_ascii_digit (decimal n) refl refl refl (decimal_digits n small)
 
 word-id : (text : List ℕ) → is_id_text text ≡ true → IsWord text
 word-id text is = word-test is_id_byte text refl refl refl (and_parts _ _ is).1

@@ -49,8 +49,3 @@ slip_of_fields fields = do
 abbrev pub at_line : {A : Type 0} → ℕ → Result A ℕ → Result A LineFault
 at_line line (Ok x) = Ok x
 at_line line (Err k) = Err (BadField line k)
-
--- a result with its value seen by a function
-abbrev pub result_map : {A B E : Type 0} → (A → B) → Result A E → Result B E
-result_map f (Ok x) = Ok (f x)
-result_map f (Err e) = Err e

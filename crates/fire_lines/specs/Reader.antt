@@ -1,6 +1,7 @@
 -- How contracts see a reader of lines, and what a feed leaves.
-use Rattle.std.specs.Prelude.{ℕ, ◌≡◌, ◌≢◌, List, [], ◌∷◌, ◌++◌, Option, None, Some, Result, Err, MatchResult, if◌then◌else◌}
+use Rattle.std.specs.Prelude.{ℕ, ◌≡◌, ◌≢◌, List, [], ◌∷◌, ◌++◌, Option, None, Some, Result, Err, if◌then◌else◌}
 use mathlib.Core.List.{IsPrefix}
+use Rattle.block_record.specs.Words.{Answers, GrowsBy}
 use Rattle.block_record.specs.declared.blocks.Kind.{Kind}
 use Rattle.block_record.specs.declared.blocks.Slip.{Slip}
 use Rattle.fire_lines.specs.declared.faults.LineFault.{LineFault}
@@ -82,14 +83,6 @@ with_tail tail r = in_progress (tail_fault r.max r.lines (without_cr tail)) tail
 -- a fact, unless there was no memory
 abbrev pub UnlessMem : {T : Type 0} → Result T LineFault → Type 0 → Type 0
 UnlessMem result P = result ≢ Err Mem → P
-
--- the answer is this fault, or Ok where there is none
-abbrev pub Answers : {T : Type 0} → Result T LineFault → Option LineFault → Type 0
-Answers result fault = MatchResult result (λ _. fault ≡ None) (λ f. fault ≡ Some f)
-
--- blocks grew by these slips
-abbrev pub GrowsBy : List Slip → List Slip → List Slip → Type 0
-GrowsBy old new slips = new ≡ old ++ slips
 
 -- these are the slips that a text gives with a further piece, beyond those that it gives without
 abbrev pub AreFurther : ℕ → List ℕ → List ℕ → List Slip → Type 0

@@ -7,7 +7,8 @@ ghost use Rattle.block_record.specs.Number.{number_of};
 ghost use Rattle.block_record.specs.Parents.{is_parent_num};
 ghost use Rattle.block_record.specs.Slips.{slip};
 ghost use Rattle.fire_lines.specs.Parts.{words_left};
-ghost use Rattle.fire_lines.specs.Fields.{field as field_as, id_of, parent_num_of, payload_of, slip_of_fields, at_line, result_map};
+ghost use Rattle.block_record.specs.Words.{result_map};
+ghost use Rattle.fire_lines.specs.Fields.{field as field_as, id_of, parent_num_of, payload_of, slip_of_fields, at_line};
 ghost use Rattle.fire_lines.specs.Reader.{UnlessMem};
 
 use crate::faults::LineFault;

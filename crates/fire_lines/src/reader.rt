@@ -7,7 +7,8 @@ ghost use Rattle.block_record.specs.Slips.{slip};
 ghost use Rattle.fire_lines.specs.Line.{says, init_says, block_says, kind_of, may_be_fire, is_too_long};
 ghost use Rattle.fire_lines.specs.Parts.{words_left, without_cr as cut_cr};
 ghost use Rattle.fire_lines.specs.Text.{tail_fault, next_line as line_after};
-ghost use Rattle.fire_lines.specs.Reader.{state_after, kept, kind_after, slips_of, fault_of, line_says, with_line, with_tail, without_memory, UnlessMem, Answers, GrowsBy, IsRead, IsCutShort};
+ghost use Rattle.block_record.specs.Words.{Answers, GrowsBy};
+ghost use Rattle.fire_lines.specs.Reader.{state_after, kept, kind_after, slips_of, fault_of, line_says, with_line, with_tail, without_memory, UnlessMem, IsRead, IsCutShort};
 
 use crate::faults::LineFault;
 use crate::fields::read_block;

@@ -20,7 +20,8 @@ use Rattle.step_cursor.specs.declared.form.Form.{Form}
 use Rattle.step_cursor.specs.declared.form.Form.TheVariants.{AtEnd, AtLib, Apart}
 use Rattle.step_cursor.specs.CursorText.{is_at, form_for, IsRef}
 use Rattle.step_cursor.specs.CursorParts.{form_named, step_named, id_of, is_missing, is_pair_num, is_pair_id, is_block_again, has_second, earlier_fits, are_good, first_failure, words, parts, plain_fault}
-use Rattle.step_cursor.specs.Reading.{part_at, second_at, end_by, lib_by, cursor_by, word_count, same_form, rest_of, cursor_of, result_map, ◌>>=◌}
+use Rattle.block_record.specs.Words.{result_map}
+use Rattle.step_cursor.specs.Reading.{part_at, second_at, end_by, lib_by, cursor_by, word_count, same_form, rest_of, cursor_of, ◌>>=◌}
 use Rattle.step_cursor.proofs.WordFacts.{RefRead, ref_read, PairRead, pair_read}
 use Rattle.step_cursor.proofs.ReadFacts.{SecondRead, second_read}
 

@@ -5,17 +5,14 @@ use Rattle.base64.specs.GeneralPurpose.{IsBytes}
 use Rattle.std.proofs.lemmas.Bool.Decides.{nat_tests}
 use Rattle.std.specs.Option.{ok_or}
 use Rattle.std.specs.Fmt.{decimal}
-use Rattle.std.specs.Str.{bytes_eq, all_ascii_digits}
-use Rattle.std.specs.Str.Parse.{digits_value}
+use Rattle.std.specs.Str.{bytes_eq}
 use Rattle.std.specs.Char.{is_ascii_digit}
-use Rattle.std.specs.List.{join_with_byte, list_all}
+use Rattle.std.specs.List.{join_with_byte}
 use Rattle.std.proofs.lemmas.Bool.{and_parts, and_right, eqb-true, eq-eqb, ne_eqb, false≢true, leb-true}
-use Rattle.std.proofs.lemmas.Str.Parse.{IsNumeralModel, numerals_by_value, tells_all_ascii_digits}
-use Rattle.std.proofs.lemmas.Fmt.{digits_decimal}
 use Rattle.block_record.specs.declared.blocks.BlockRef.{BlockRef}
 use Rattle.block_record.specs.Ids.{same_id, same_id-true}
 use Rattle.block_record.specs.Texts.{is_id_text, is_id_byte}
-use Rattle.block_record.proofs.public.NumberTexts.{number_of-decimal}
+use Rattle.block_record.proofs.public.NumberTexts.{decimal_digits, number_of-decimal}
 use Rattle.chain_model.specs.declared.places.Step.{Step}
 use Rattle.chain_model.specs.declared.places.Step.TheVariants as step
 use Rattle.chain_model.specs.Fold.{same_ref}
@@ -25,19 +22,13 @@ use Rattle.step_cursor.specs.declared.form.Form.{Form}
 use Rattle.step_cursor.specs.declared.form.Form.TheVariants.{AtEnd, AtLib, Apart}
 use Rattle.step_cursor.specs.CursorText.{step_number, is_at, form_for, form_word, pair_words, place_words, cursor_words, tail_parts, plain_text, IsRef, IsRefIfAny, IsTailIfAny, IsPrintable}
 use Rattle.step_cursor.specs.CursorParts.{parts, words, form_named, step_named, id_of, is_missing}
-use Rattle.step_cursor.specs.Reading.{part_at, ref_at, pair_at, second_at, tail_of, end_by, lib_by, cursor_by, word_count, same_form, whole_of, cursor_of, result_map, ◌>>=◌}
+use Rattle.block_record.specs.Words.{result_map}
+use Rattle.step_cursor.specs.Reading.{part_at, ref_at, pair_at, second_at, tail_of, end_by, lib_by, cursor_by, word_count, same_form, whole_of, cursor_of, ◌>>=◌}
 use Rattle.step_cursor.proofs.SplitFacts.{Each, EachOf, each_test, each-join, IsNot, split-join, Stand}
 use Rattle.step_cursor.proofs.WordFacts.{step_texts}
 use Rattle.step_cursor.proofs.FaultFacts.{no_id}
 
 -- ---- of what bytes the words are
-
-numerals : IsNumeralModel (λ ds. all_ascii_digits ds ≡ true) (digits_value 10)
-numerals = numerals_by_value _ tells_all_ascii_digits
-
-digits_all : (l : List ℕ) → all_ascii_digits l ≡ list_all is_ascii_digit l
-digits_all [] = refl
-digits_all (x ∷ l) = ap (λ t. is_ascii_digit x && t) (digits_all l)
 
 -- what is so of each byte of a word: of the bytes of ids, digits among them, and of the dash
 record IsOfWords (P : ℕ → Type 0) : Type 0 where
@@ -47,7 +38,7 @@ record IsOfWords (P : ℕ → Type 0) : Type 0 where
 
 module _ (P : ℕ → Type 0) (so : IsOfWords P) where
   each_number : (n : ℕ) → n < 2 ^ 64 → Each P (decimal n)
-  each_number n small = each_test is_ascii_digit P (decimal n) so.digit (sym (digits_all (decimal n)) ∙ digits_decimal numerals n small)
+  each_number n small = each_test is_ascii_digit P (decimal n) so.digit (decimal_digits n small)
 
   each_id : (id : List ℕ) → is_id_text id ≡ true → Each P id
   each_id id is = each_test is_id_byte P id so.id (and_parts _ _ is).1

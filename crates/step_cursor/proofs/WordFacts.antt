@@ -17,7 +17,8 @@ use Rattle.step_cursor.specs.declared.form.Form.{Form}
 use Rattle.step_cursor.specs.declared.form.Form.TheVariants.{AtEnd, AtLib, Apart}
 use Rattle.step_cursor.specs.CursorText.{step_number, form_word, pair_words, IsRef, IsRefIfAny}
 use Rattle.step_cursor.specs.CursorParts.{form_named, step_named, id_of, is_text, is_missing}
-use Rattle.step_cursor.specs.Reading.{part_at, ref_at, pair_at, result_map, ◌>>=◌}
+use Rattle.block_record.specs.Words.{result_map}
+use Rattle.step_cursor.specs.Reading.{part_at, ref_at, pair_at, ◌>>=◌}
 use Rattle.step_cursor.proofs.SplitFacts.{Stand}
 
 pub ok_of : {A B : Type 0} (x : Result A ℕ) (f : A → Result B ℕ) (b : B) → (x >>= f) ≡ Ok b → (a : A) × ((x ≡ Ok a) × (f a ≡ Ok b))

@@ -6,6 +6,7 @@ use Rattle.std.specs.Option.{ok_or, option_map}
 use Rattle.std.specs.Result.{IsErr}
 use Rattle.base64.specs.declared.decode.DecodeError.{DecodeError}
 use Rattle.block_record.specs.declared.blocks.BlockRef.{BlockRef}
+use Rattle.block_record.specs.Words.{result_map}
 use Rattle.block_record.specs.Number.{number_of}
 use Rattle.chain_model.specs.declared.places.Step.{Step}
 use Rattle.step_cursor.specs.declared.cursor.Cursor.{Cursor}
@@ -23,11 +24,6 @@ infixl 10 ◌>>=◌
 abbrev pub ◌>>=◌ : {A B E : Type 0} → Result A E → (A → Result B E) → Result B E
 (Ok x) >>= f = f x
 (Err e) >>= f = Err e
-
--- a result with its value seen by a function
-abbrev pub result_map : {A B E : Type 0} → (A → B) → Result A E → Result B E
-result_map f (Ok x) = Ok (f x)
-result_map f (Err e) = Err e
 
 -- texts, each after a separator
 abbrev pub each_after : ℕ → List (List ℕ) → List ℕ

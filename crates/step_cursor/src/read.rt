@@ -4,7 +4,8 @@ ghost use Rattle.std.specs.Prelude.{◌≡◌, ◌<◌, [], slice_get, option_an
 ghost use Rattle.std.specs.Option.{option_copied, option_map, unwrap_or};
 ghost use Rattle.block_record.specs.Number.{number_of};
 ghost use Rattle.step_cursor.specs.CursorParts.{form_named as form_by_name, step_named as step_by_name, id_of, is_text};
-ghost use Rattle.step_cursor.specs.Reading.{seen as texts, ref_seen, cursor_seen, result_map, ref_at, pair_at, second_at, third_of, tail_of, end_by, lib_by, whole_of, rest_of, cursor_of};
+ghost use Rattle.block_record.specs.Words.{result_map};
+ghost use Rattle.step_cursor.specs.Reading.{seen as texts, ref_seen, cursor_seen, ref_at, pair_at, second_at, third_of, tail_of, end_by, lib_by, whole_of, rest_of, cursor_of};
 
 use crate::cursor::Tail;
 use crate::form::{Form, form_named, step_named};

@@ -2,6 +2,7 @@
 use Rattle.std.proofs.Common.{not, arith, ◌≡◌, ◌≢◌, ◌<◌, ◌≤◌, ◌+◌, ◌-◌, ◌*◌, ◌^◌, cond, Bool, nat_le, [], ◌∷◌, zero, suc, inl, inr, ℕ, List, length, IfSome, IfNone, sym, ap, refl, ◌∙◌, true, false, ◌&&◌, nat_lt, Option, Some, None, get_or}
 use Rattle.std.specs.Fmt.{decimal}
 use Rattle.std.specs.Str.{all_ascii_digits}
+use Rattle.std.specs.List.{list_all}
 use Rattle.std.specs.Prelude.{slice_index, ◌==◌, option_and_then}
 use Rattle.std.specs.Char.{digit_value, is_ascii_digit}
 use Rattle.std.proofs.lemmas.Str.{digit_value_digit}
@@ -34,6 +35,14 @@ no_zero_first (suc n) small = and_left _ _ (ne_eqb (slice_index (decimal (suc n)
 
 digits : IsNumeralModel (λ ds. all_ascii_digits ds ≡ true) (digits_value 10)
 digits = numerals_by_value _ tells_all_ascii_digits
+
+digits_all : (l : List ℕ) → all_ascii_digits l ≡ list_all is_ascii_digit l
+digits_all [] = refl
+digits_all (x ∷ l) = ap (λ t. is_ascii_digit x && t) (digits_all l)
+
+-- each byte of the text of a number is a digit
+pub decimal_digits : (n : ℕ) → n < 2 ^ 64 → list_all is_ascii_digit (decimal n) ≡ true
+decimal_digits n small = sym (digits_all (decimal n)) ∙ digits_decimal digits n small
 
 -- the text of a number is read as it
 pub number_of-decimal : (n : ℕ) → n < 2 ^ 64 → number_of (decimal n) ≡ Some n

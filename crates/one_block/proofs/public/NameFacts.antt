@@ -2,13 +2,9 @@
 use Rattle.std.proofs.Common.{◌≡◌, ℕ, zero, suc, ◌-◌, ◌^◌, ◌<◌, Bool, true, false, ◌&&◌, cond, eqb, nat_lt, nat_le, List, [], ◌∷◌, ◌++◌, length, drop, replicate, Option, None, Some, refl, sym, ap, subst, ◌∙◌, arith, option_and_then}
 use Rattle.std.specs.Prelude.{slice_get, All}
 use Rattle.std.specs.Fmt.{decimal}
-use Rattle.std.specs.Str.{all_ascii_digits}
-use Rattle.std.specs.Str.Parse.{digits_value}
 use Rattle.std.specs.Char.{is_ascii_digit}
 use Rattle.std.specs.List.{slice_split, join_with_byte, list_all}
 use Rattle.std.proofs.lemmas.Bool.{and_parts, eqb-true, le-leb, lt-ltb, ltb-true, false≢true}
-use Rattle.std.proofs.lemmas.Str.Parse.{IsNumeralModel, numerals_by_value, tells_all_ascii_digits}
-use Rattle.std.proofs.lemmas.Fmt.{digits_decimal}
 use Rattle.std.proofs.lemmas.List.{length-drop}
 use Rattle.std.proofs.lemmas.List.Elements.{All-append, All-cons, All-replicate}
 use Rattle.std.proofs.lemmas.List.Sums.{AllPass-from_list_all}
@@ -16,7 +12,7 @@ use Rattle.std.proofs.lemmas.List.Splits.{join_with_byte-slice_split, slice_spli
 use Rattle.block_record.specs.declared.blocks.Slip.{Slip}
 use Rattle.block_record.specs.Number.{number_of}
 use Rattle.block_record.specs.Texts.{is_id_text, is_id_byte, is_reader_text, is_reader_byte}
-use Rattle.block_record.proofs.public.NumberTexts.{number_of-decimal, decimal-number_of}
+use Rattle.block_record.proofs.public.NumberTexts.{decimal_digits, number_of-decimal, decimal-number_of}
 use Rattle.one_block.specs.declared.moments.Moment.{Moment}
 use Rattle.one_block.specs.declared.names.NameParts.{NameParts}
 use Rattle.one_block.specs.Moments.{moment_of, day_text, clock_text, moment_text, IsTimely}
@@ -47,15 +43,8 @@ no_dash q b fails passes = by_test (eqb b 45) refl
 no_dashes : (q : ℕ → Bool) (word : List ℕ) → q 45 ≡ false → list_all q word ≡ true → NoDash word
 no_dashes q word fails passes k d less = no_dash q _ fails (AllPass-from_list_all q word passes k d less)
 
-numerals : IsNumeralModel (λ ds. all_ascii_digits ds ≡ true) (digits_value 10)
-numerals = numerals_by_value _ tells_all_ascii_digits
-
-digits_all : (l : List ℕ) → all_ascii_digits l ≡ list_all is_ascii_digit l
-digits_all [] = refl
-digits_all (x ∷ l) = ap (λ t. is_ascii_digit x && t) (digits_all l)
-
 no_dash_decimal : (n : ℕ) → n < 2 ^ 64 → NoDash (decimal n)
-no_dash_decimal n small = no_dashes is_ascii_digit (decimal n) refl (sym (digits_all (decimal n)) ∙ digits_decimal numerals n small)
+no_dash_decimal n small = no_dashes is_ascii_digit (decimal n) refl (decimal_digits n small)
 
 no_dash_padded : (width n : ℕ) → n < 2 ^ 64 → NoDash (padded width n)
 no_dash_padded width n small = All-append NotDash (replicate (width - length (decimal n)) 48) (decimal n) (All-replicate NotDash (width - length (decimal n)) 48 refl) (no_dash_decimal n small)

@@ -1,5 +1,6 @@
 use Rattle.std.proofs.Common.{sym, ap, subst, ◌∙◌, arith, refl}
-use Rattle.dbin_file.specs.Reader.{ReaderState, Answers, IsCutShort, without_memory}
+use Rattle.block_record.specs.Words.{Answers}
+use Rattle.dbin_file.specs.Reader.{ReaderState, IsCutShort, without_memory}
 use Rattle.dbin_file.proofs.MessageFacts.{nothing_partial}
 use Rattle.dbin_file.proofs.HeaderFacts.{whole, typed, type_text, begins_here, start_is, cut_short_here, nothing_taken}
 use Rattle.dbin_file.proofs.reader.DbinReader.begin.Goals as goal

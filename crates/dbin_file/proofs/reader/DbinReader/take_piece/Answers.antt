@@ -1,7 +1,8 @@
 use Rattle.std.proofs.Common.{◌≡◌, ◌++◌, ℕ, List, [], IsTrue, sym, ap, subst, ◌∙◌, arith, refl, false}
 use Rattle.std.specs.Option.{is_some}
 use Rattle.std.proofs.lemmas.List.{nil_from_length}
-use Rattle.dbin_file.specs.Reader.{ReaderState, Answers, found}
+use Rattle.block_record.specs.Words.{Answers}
+use Rattle.dbin_file.specs.Reader.{ReaderState, found}
 use Rattle.dbin_file.proofs.HeaderFacts.{finds, keeps, read_at_once, cut_short_past, nothing_taken}
 use Rattle.dbin_file.proofs.reader.DbinReader.take_piece.Goals as goal
 

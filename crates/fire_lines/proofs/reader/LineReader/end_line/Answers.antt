@@ -1,7 +1,8 @@
 use Rattle.std.proofs.Common.{◌++◌, map, sym, ap, subst, ◌∙◌}
 use Rattle.block_record.specs.Slips.{slip}
 use Rattle.fire_lines.specs.Line.{Saying}
-use Rattle.fire_lines.specs.Reader.{ReaderState, fault_of, slips_of, without_memory, Answers, GrowsBy}
+use Rattle.block_record.specs.Words.{Answers, GrowsBy}
+use Rattle.fire_lines.specs.Reader.{ReaderState, fault_of, slips_of, without_memory}
 use Rattle.fire_lines.proofs.LineFacts.{same_fault, with_tail-good, line_says-kept, with_line-kept}
 use Rattle.fire_lines.proofs.reader.LineReader.end_line.Goals as goal
 
