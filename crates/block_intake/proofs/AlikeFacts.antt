@@ -1,5 +1,5 @@
 -- That an offer is answered alike in worlds that are alike, and leaves such.
-use Rattle.std.proofs.Common.{◌≡◌, ◌++◌, Bool, List, [], ◌∷◌, length, Option, Some, None, refl, sym, ◌∙◌, ap, subst, cond}
+use Rattle.std.proofs.Common.{◌≡◌, ◌++◌, List, [], ◌∷◌, Option, Some, None, refl, sym, ◌∙◌, ap, subst, cond}
 use Rattle.block_record.specs.declared.blocks.Slip.{Slip}
 use Rattle.chain_model.specs.Ancestry.{find_id}
 use Rattle.relay_model.specs.declared.answers.Conflict.{Conflict as Clash}
@@ -11,6 +11,7 @@ use Rattle.block_intake.specs.declared.judged.Judged.{Judged}
 use Rattle.block_intake.specs.declared.judged.Judged.TheVariants as judged
 use Rattle.block_intake.specs.Intakes.{IsAlike}
 use Rattle.block_intake.specs.Judged.{verdict_of_judged}
+use Rattle.relay_model.proofs.public.Judged.{closed_by}
 
 limit_alike : (w v : World) (s : Slip) → IsAlike w v → judge_limit w s ≡ judge_limit v s
 limit_alike w v s a = rw (a.limits, a.history, a.waiting) refl
@@ -80,17 +81,6 @@ alike_on u w v a e = record {
   history = a.history ∙ ap (λ (x : World). x.history) e;
   waiting = a.waiting ∙ ap (λ (x : World). x.waiting) e;
 }
-
-closed_by : (w : World) (s : Slip) (u : Verdict) → (world_by w s u).closed ≡ w.closed
-closed_by w s verdict.Closed = refl
-closed_by w s verdict.Duplicate = refl
-closed_by w s (verdict.Conflict c) = refl
-closed_by w s verdict.Early = refl
-closed_by w s verdict.Stale = refl
-closed_by w s verdict.WaitFull = refl
-closed_by w s verdict.Waiting = refl
-closed_by w s (verdict.HistoryFull need) = refl
-closed_by w s verdict.Admitted = refl
 
 -- what an offer answers, and what it leaves
 pub record AnswersAlike (w v : World) (s : Slip) : Type 0 where

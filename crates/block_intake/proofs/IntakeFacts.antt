@@ -1,5 +1,5 @@
 -- What an intake has after an offer, by the rule that decides it.
-use Rattle.std.proofs.Common.{arith, cond, leb, ltb, inl, inr, ◌≡◌, ◌<◌, ◌≤◌, ◌+◌, ◌-◌, ◌++◌, ℕ, Bool, true, false, List, [], ◌∷◌, length, reverse, Option, Some, None, Result, Err, IsTrue, refl, sym, ◌∙◌, ap, subst, append_assoc}
+use Rattle.std.proofs.Common.{arith, cond, leb, ltb, inl, inr, ◌≡◌, ◌<◌, ◌≤◌, ◌+◌, ◌-◌, ◌++◌, ℕ, Bool, true, false, List, [], ◌∷◌, length, reverse, Option, Some, None, Result, Err, IsTrue, refl, sym, ◌∙◌, ap, subst}
 use Rattle.std.proofs.lemmas.Bool.{cases_Bool, le-leb, ltb-false, ltb-true}
 use Rattle.std.proofs.lemmas.List.{length-append, reverse-reverse}
 use Rattle.block_record.specs.declared.blocks.Block.{Block}
@@ -8,13 +8,13 @@ use Rattle.chain_model.specs.Ancestry.{find_id, has_id}
 use Rattle.chain_model.specs.Finality.{root_num}
 use Rattle.relay_model.specs.declared.answers.Conflict.{Conflict as Clash}
 use Rattle.relay_model.specs.Worlds.{World, descendants, has_room, room_bytes}
-use Rattle.relay_model.specs.Offers.{Intake, Admitted, answer_by, clash, intake, judge, judge_clash, judge_held, judge_limit, judge_linked, judge_parent, kind_after, plain_kind, purged, tip_num, world_by}
+use Rattle.relay_model.specs.Offers.{Intake, Admitted, answer_by, clash, intake, judge, judge_held, judge_limit, judge_linked, judge_parent, kind_after, purged, tip_num, world_by}
 use Rattle.relay_model.specs.Verdicts.{Verdict}
 use Rattle.relay_model.specs.Verdicts as verdict
 use Rattle.relay_model.specs.Runs.{empty_world}
 use Rattle.relay_model.specs.Soundness.{IsBlock, IsSound}
 use Rattle.relay_model.proofs.public.Intakes.{taking_grows}
-use Rattle.relay_model.proofs.public.Judged.{judged_waits, limit_takes}
+use Rattle.relay_model.proofs.public.Judged.{judged_waits, limit_takes, clash_waits}
 use Rattle.relay_model.proofs.public.Sound.{empty_sound, intake_grows, keeps_by, new_parts, same_sound}
 use Rattle.wait_room.specs.Rooms.{fits_in, with_block}
 use Rattle.block_intake.specs.declared.limits.IntakeLimits.{IntakeLimits}
@@ -28,10 +28,6 @@ use Rattle.block_intake.specs.Taking.{IsRoomFault, KeepsLimits, intake_from}
 use Rattle.block_intake.proofs.CountFacts.{intake_within}
 
 -- a block that has to wait has room
-clash_waits : (w : World) (s : Slip) (o : Option Clash) → judge_clash w s o ≡ verdict.Waiting → ⊥
-clash_waits w s None e = limit_takes w s e
-clash_waits w s (Some c) e = absurd (grind (arith, e))
-
 room_waits : (w : World) (s : Slip) (o : Option Slip) → judge_parent w s o ≡ verdict.Waiting → has_room w.limits w.waiting s ≡ true
 room_waits w s (Some p) e = absurd (clash_waits w s (clash w.history s) e)
 room_waits w s None e =

@@ -1,5 +1,5 @@
 -- The rule that decides an offer, step by step.
-use Rattle.std.proofs.Common.{arith, ◌≡◌, ◌<◌, ◌≤◌, ◌==◌, ◌&&◌, ℕ, Bool, true, false, cond, List, [], ◌∷◌, ◌++◌, length, Option, Some, None, refl, sym, ◌∙◌, ap, subst, inl, inr, suc, is_some, IsSome, nat_le, nat_lt}
+use Rattle.std.proofs.Common.{arith, ◌≡◌, ◌<◌, ◌≤◌, ◌==◌, ◌&&◌, ℕ, Bool, true, false, cond, List, [], ◌∷◌, ◌++◌, length, Option, Some, None, refl, sym, ◌∙◌, ap, subst, inl, inr, is_some, IsSome, nat_le, nat_lt}
 use Rattle.std.specs.Option.{option_or}
 use Rattle.std.proofs.lemmas.List.Folds.{find-append}
 use Rattle.std.proofs.lemmas.Bool.{both_ways, cases_Bool, cases_eq}
@@ -146,18 +146,6 @@ fits_child newest s p found none fresh less =
   where
     no_clash : (c : Clash) → None ≡ Some c → ⊥
     no_clash c e = grind (arith, e)
-
--- a place in range has a block
-pub slip_there : (newest : List Slip) (at : ℕ) → at < length newest → (t : Slip) × (slip_at newest at ≡ Some t)
-slip_there [] at lt = absurd (omega arith)
-slip_there (s ∷ older) at lt =
-    elim (cases_Bool (at == length older)) [
-      | inl top ↦ (s, rw top refl)
-      | inr below ↦ let r = slip_there older at (under at (length older) below lt) in (r.0, rw below r.1)
-    ]
-  where
-    under : (a n : ℕ) → (a == n) ≡ false → a < suc n → a < n
-    under a n e lt = grind (arith, e)
 
 pub some_is : (o : Option ℕ) → is_some o ≡ true → IsSome o
 some_is None e = absurd (grind (arith, e))

@@ -1,6 +1,7 @@
 //! The relay.
 
 ghost use Rattle.std.specs.Prelude.{◌++◌, drop, map, take, Option, ◌≡◌, ◌≢◌, ◌<◌, ◌≤◌, ◌+◌, ◌∷◌, [], length, reverse, vec_len, vec_capacity, ℕ, List, Err, None, false, true, IsSome, IsTrue, IfOk, OnErr, OnOk, Some};
+ghost use Rattle.std.specs.Result.{IsOk};
 ghost use Rattle.std.specs.List.{AllByRecursion};
 ghost use Rattle.std.specs.Option.{option_copied, option_map};
 ghost use Rattle.block_record.specs.Slips.{slip as slip_of_block};
@@ -125,6 +126,9 @@ impl Relay {
             (IsTrue (may_greet (world_told self.old).kind kind.now)
             × (self.new.entries
             ≡ greeted (world_told self.old).kind kind.now self.old.entries)) }
+        // Where there is a kind already, no memory is needed.
+        ensures known { (world_told self.old).kind ≢ None
+            → may_greet (world_told self.old).kind kind.now ≡ true → IsOk result }
         ensures conflicts { self.new.conflicts ≡ self.old.conflicts }
         ensures err { OnErr result (self.new.entries ≡ self.old.entries) }
         // `KindClash` comes exactly where the types differ, but for want of memory.

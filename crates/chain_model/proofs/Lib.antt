@@ -1,2 +1,1 @@
-pub mod ScanFacts
-pub mod StandardFacts
+pub mod public

@@ -2,9 +2,8 @@
 use Rattle.std.proofs.Common.{arith, ◌≡◌, ◌≤◌, ◌+◌, ◌++◌, ℕ, List, [], ◌∷◌, length, Option, Some, None, refl, sym, ◌∙◌, ap, subst, map, take, drop, append_assoc, option_and_then, suc, zero, Bool, true, false, is_some, Result, Ok, Err}
 use Rattle.std.specs.List.{slice_get}
 use Rattle.std.specs.Option.{option_map}
-use Rattle.std.proofs.lemmas.List.{append-nil, map-append}
+use Rattle.std.proofs.lemmas.List.{append-nil}
 use Rattle.std.proofs.Math.Seq.{take-length}
-use Rattle.std.proofs.lemmas.List.Concat.{flat_map-append}
 use Rattle.std.proofs.lemmas.Option.{same_Some}
 use mathlib.Core.List.{IsSuffix}
 use Rattle.block_record.specs.declared.blocks.Slip.{Slip}
@@ -31,12 +30,12 @@ use Rattle.block_intake.specs.declared.answers.OfferFault.{OfferFault}
 use Rattle.block_intake.specs.declared.answers.OfferFault.TheVariants as fault
 use Rattle.block_intake.specs.Answers.{IsAnswer, is_mem}
 use Rattle.block_intake.specs.Intakes.{IsAlike, IsUnchanged, TakenIn, unnoted, world_taken}
-use Rattle.block_intake.proofs.AlikeFacts.{alike_back, offered_alike}
+use Rattle.block_intake.proofs.AlikeFacts.{offered_alike}
 use Rattle.block_intake.proofs.IntakeFacts.{unchanged_world}
 use Rattle.step_text.specs.declared.refusals.Refusal.{Refusal}
 use Rattle.step_text.specs.StepText.{Told, place_by, prepend, refusal_of, step_line, step_lines, steps_by, tell}
 use Rattle.step_text.specs.Taken.{IsTaken, Tells}
-use Rattle.step_text.proofs.public.RunFacts.{told_refusal}
+use Rattle.step_text.proofs.public.RunFacts.{told_refusal, lines-append}
 use Rattle.fire_tool.specs.Following.{IsFollowed, admits}
 
 -- a place goes on to fit as the history grows
@@ -137,14 +136,11 @@ step_missing newest o steps i text eo e =
     let none : slice_get steps i ≡ None = sym e ∙ ap (option_and_then (step_seen newest)) eo in
     sym (ap (λ l. text ++ step_lines (map plain_of l)) (none_at steps i none) ∙ append-nil text)
 
-lines_append : (xs ys : List BlockStep) → step_lines (map plain_of (xs ++ ys)) ≡ step_lines (map plain_of xs) ++ step_lines (map plain_of ys)
-lines_append xs ys = ap step_lines (map-append plain_of xs ys) ∙ flat_map-append step_line (map plain_of xs) (map plain_of ys)
-
 pub lines_more : (steps : List BlockStep) (start before after : List ℕ) (i : ℕ) → before ≡ start ++ step_lines (map plain_of (take i steps)) → after ≡ before ++ step_lines (map plain_of (take 1 (drop i steps)))
     → after ≡ start ++ step_lines (map plain_of (take (i + 1) steps))
 lines_more steps start before after i e f =
     f ∙ ap (λ l. l ++ step_lines (map plain_of (take 1 (drop i steps)))) e ∙ append_assoc start (step_lines (map plain_of (take i steps))) (step_lines (map plain_of (take 1 (drop i steps))))
-    ∙ ap (λ l. start ++ l) (sym (lines_append (take i steps) (take 1 (drop i steps))) ∙ ap (λ l. step_lines (map plain_of l)) (sym (one_more steps i (i + 1) (let f : i + 1 ≡ suc i = omega arith in f))))
+    ∙ ap (λ l. start ++ l) (sym (lines-append (take i steps) (take 1 (drop i steps))) ∙ ap (λ l. step_lines (map plain_of l)) (sym (one_more steps i (i + 1) (let f : i + 1 ≡ suc i = omega arith in f))))
 
 pub lines_whole : (steps : List BlockStep) (start text : List ℕ) (n : ℕ) → n ≡ length steps → text ≡ start ++ step_lines (map plain_of (take n steps)) → text ≡ start ++ step_lines (map plain_of steps)
 lines_whole steps start text n e f = f ∙ ap (λ l. start ++ step_lines (map plain_of l)) (whole steps n e)

@@ -8,7 +8,7 @@ use Rattle.block_record.specs.declared.blocks.Slip.{Slip}
 use Rattle.chain_model.specs.Ancestry.{find_id, has_id, ancestry, IsHistory}
 use Rattle.chain_model.specs.Finality.{claim, claims, greater, greatest, on_path, final_tip, ancestry_of, ClaimsAgree}
 use Rattle.chain_model.specs.Steps.{holds_tip}
-use Rattle.chain_model.proofs.ScanFacts.{ancestry_past}
+use Rattle.chain_model.proofs.public.ScanFacts.{ancestry_past}
 use Rattle.chain_laws.proofs.public.Lines.{IsHistory-rest, has_id-find_id, other_id, is_above}
 use Rattle.chain_laws.proofs.public.Growth.{IsFound, find_passes, claim_found, claims_kept, tip_claimed, greater_cases, grows_by_one}
 use Rattle.chain_laws.proofs.public.Reach.{has_id-suffix}
@@ -20,6 +20,7 @@ use Rattle.block_tree.proofs.public.PlaceFacts.{slip_at_within, slip_at_past, sl
 use Rattle.block_tree.proofs.public.ParentFacts.{found_at}
 use Rattle.block_tree.proofs.public.PathFacts.{place_at}
 use Rattle.fork_db.specs.Heads.{IsBest, holds_final_tip}
+use Rattle.fork_db.proofs.public.ClaimFacts.{on_path_past}
 
 not_less : (a b place at : ℕ) → (b < a) ⊎ ((b ≡ a) × (place ≤ at)) → ltb a b ≡ false
 not_less a b place at (inl h) = le-ltb a b (omega arith)
@@ -120,12 +121,9 @@ best_kept p q s older place z fewer good less h =
       ];
     }
 
--- who is on a path does not change with one more block
+-- a path does not change with one more block
 path_past : (s : Slip) (older : List Slip) (y : Slip) → IsHistory (s ∷ older) → find_id older y.id ≡ Some y → ancestry (s ∷ older) y.id ≡ ancestry older y.id
 path_past s older y h f = ancestry_past s older y.id (other_id s older h y.id (has_id-find_id older y.id y f))
-
-pub on_path_past : (s : Slip) (older : List Slip) (x y : Slip) → IsHistory (s ∷ older) → find_id older y.id ≡ Some y → on_path (s ∷ older) x y ≡ on_path older x y
-on_path_past s older x y h f = ap (λ l. has_id l x.id) (path_past s older y h f)
 
 -- a path holds the paths of its blocks
 pub on_path_through : (newest : List Slip) (x y z : Slip) → IsHistory newest → on_path newest x y ≡ true → on_path newest y z ≡ true → on_path newest x z ≡ true

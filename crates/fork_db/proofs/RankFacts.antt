@@ -19,7 +19,8 @@ use Rattle.block_tree.proofs.public.PlaceFacts.{slip_at_within, slip_at_past, sl
 use Rattle.block_tree.proofs.public.ParentFacts.{found_at}
 use Rattle.fork_db.specs.declared.heads.Rival.{Rival}
 use Rattle.fork_db.specs.Heads.{IsBest, holds_final_tip, IsRivalOf, HoldsTipAt, IsUnderRival, RanksAll, IsRanked, rival_cmp}
-use Rattle.fork_db.proofs.HeadFacts.{best_greatest, best_new, best_kept, new_or_old, on_path_past, on_path_through, passes_through, passed_before, tip_stays, passes_still, under_num}
+use Rattle.fork_db.proofs.HeadFacts.{best_greatest, best_new, best_kept, new_or_old, on_path_through, passes_through, passed_before, tip_stays, passes_still, under_num}
+use Rattle.fork_db.proofs.public.ClaimFacts.{on_path_past}
 
 -- a fact of the block at a place
 pub some_at : (newest : List Slip) (place : ℕ) (P : Slip → Type 0) (y : Slip) → slip_at newest place ≡ Some y → P y → IsSomeAnd (slip_at newest place) P

@@ -131,13 +131,12 @@ fn verdict_from(judged: Result<Linked, ChildFault>) -> Verdict
 }
 
 /// The place of what the next block claims, which may be its own.
-pub fn claim_place(tree: &BlockTree, linked: Linked, slip: &Slip) -> usize
-    requires { IsLinkOf tree.now.history slip.now linked }
-    ensures value { slip_at (slip.now ∷ tree.now.history) result
-        ≡ claim_in (slip.now ∷ tree.now.history) slip.now }
-    ensures range { result ≤ length tree.now.history }
+pub fn claim_place(tree: &BlockTree, linked: Linked) -> usize
+    ensures value { (slip : SlipOf) → IsLinkOf tree.now.history slip linked
+        → slip_at (slip ∷ tree.now.history) result ≡ claim_in (slip ∷ tree.now.history) slip }
+    ensures range { (slip : SlipOf) → IsLinkOf tree.now.history slip linked
+        → result ≤ length tree.now.history }
 {
-    let _ = slip;
     linked.claim.unwrap_or(tree.len())
 }
 

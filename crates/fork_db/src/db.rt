@@ -306,7 +306,7 @@ impl ForkDb {
         ensures room { self.new.room + 1 ≡ self.old.room }
     {
         let at = self.tree.len();
-        let claim = claim_place(&self.tree, linked, &slip);
+        let claim = claim_place(&self.tree, linked);
         self.tree.push(slip, linked.parent);
         self.claims.push_reserved(claim as u32);
         self.held.push(block);

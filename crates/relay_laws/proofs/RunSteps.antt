@@ -22,6 +22,7 @@ use Rattle.relay_model.specs.Soundness.{IsDistinct}
 use Rattle.relay_model.proofs.public.Intakes.{find_of}
 use Rattle.relay_model.proofs.public.Sound.{empty_sound, keeps_by}
 use Rattle.relay_laws.proofs.RunFacts.{IsStep, IsRun, run_step}
+use Rattle.relay_model.proofs.public.Judged.{first_by}
 
 once_has : (xs : List Slip) (s : Slip) → IsFound (once xs) s → list_any (same_slip s) xs ≡ true
 once_has [] s f = absurd (grind (arith, f))
@@ -173,17 +174,6 @@ run_of first number limits (s ∷ earlier) blocks none one =
         → IsRun (offered W s).world (once (cond b (s ∷ T) T))
     go true ok none' one' ih = run_step W (once T) (once (s ∷ T)) s (ih (rest_one T s one')) (block_step W.first T s (once_distinct (s ∷ T) one')) blocks.0 ok none'
     go false no' none' one' ih = refused_by W (once T) s (ih one') blocks.0 (judge W s) refl no'
-
-first_by : (w : World) (s : Slip) (v : Verdict) → (world_by w s v).first ≡ w.first
-first_by w s verdict.Closed = refl
-first_by w s verdict.Duplicate = refl
-first_by w s (verdict.Conflict c) = refl
-first_by w s verdict.Early = refl
-first_by w s verdict.Stale = refl
-first_by w s verdict.WaitFull = refl
-first_by w s verdict.Waiting = refl
-first_by w s (verdict.HistoryFull need) = refl
-first_by w s verdict.Admitted = refl
 
 pub run_first : (w : World) (offers : List Slip) → (run w offers).first ≡ w.first
 run_first w [] = refl

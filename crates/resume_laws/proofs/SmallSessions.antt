@@ -10,7 +10,7 @@ use Rattle.chain_model.specs.Finality.{ClaimsAgree, agrees, claim, final_tip, fi
 use Rattle.chain_model.specs.Steps.{block_step, ref_of, steps_of, target}
 use Rattle.chain_model.specs.Places.{no_place, place_to}
 use Rattle.chain_model.specs.Fold.{fold_steps}
-use Rattle.chain_model.proofs.StandardFacts.{block, at, told, a1, b2, c2, c3, d3, final_c2, chain, tie, fork, tie_is}
+use Rattle.chain_model.proofs.public.StandardFacts.{block, at, told, a1, b2, c2, c3, d3, final_c2, chain, tie, fork, tie_is}
 use Rattle.chain_laws.specs.Standing.{stands, has_all, begins, place_at_end}
 use Rattle.chain_laws.specs.Oldest.{oldest}
 use Rattle.resume_laws.specs.Sessions.{StepLine, HeadLine, Session, CursorFits, Rises, AreOnward, AreCut, KeepsFinals, line_len, step_lens, seen_of, received, chain_lines, told_final}

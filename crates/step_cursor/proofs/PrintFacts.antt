@@ -8,14 +8,12 @@ use Rattle.std.specs.Fmt.{decimal}
 use Rattle.std.specs.Str.{bytes_eq}
 use Rattle.std.specs.Char.{is_ascii_digit}
 use Rattle.std.specs.List.{join_with_byte}
-use Rattle.std.proofs.lemmas.Bool.{and_parts, and_right, eqb-true, eq-eqb, ne_eqb, false≢true, leb-true}
+use Rattle.std.proofs.lemmas.Bool.{and_parts, and_right, eq-eqb, ne_eqb, false≢true, leb-true}
 use Rattle.block_record.specs.declared.blocks.BlockRef.{BlockRef}
-use Rattle.block_record.specs.Ids.{same_id, same_id-true}
 use Rattle.block_record.specs.Texts.{is_id_text, is_id_byte}
 use Rattle.block_record.proofs.public.NumberTexts.{decimal_digits, number_of-decimal}
 use Rattle.chain_model.specs.declared.places.Step.{Step}
 use Rattle.chain_model.specs.declared.places.Step.TheVariants as step
-use Rattle.chain_model.specs.Fold.{same_ref}
 use Rattle.step_cursor.specs.declared.cursor.Cursor.{Cursor}
 use Rattle.step_cursor.specs.declared.cursor.Tail.{Tail}
 use Rattle.step_cursor.specs.declared.form.Form.{Form}
@@ -27,6 +25,7 @@ use Rattle.step_cursor.specs.Reading.{part_at, ref_at, pair_at, second_at, tail_
 use Rattle.step_cursor.proofs.SplitFacts.{Each, EachOf, each_test, each-join, IsNot, split-join, Stand}
 use Rattle.step_cursor.proofs.WordFacts.{step_texts}
 use Rattle.step_cursor.proofs.FaultFacts.{no_id}
+use Rattle.chain_model.proofs.public.RefFacts.{ref_is}
 
 -- ---- of what bytes the words are
 
@@ -162,13 +161,6 @@ tail_reads front (Some t) whole =
     let run = number_of-decimal t.run whole.0 in
     let seen = number_of-decimal t.seen whole.1 in
     rw run (rw seen refl)
-
-ref_is : (p block : BlockRef) → same_ref p block ≡ true → p ≡ block
-ref_is p block e =
-    let parts = and_parts (same_id p.id block.id) (p.num == block.num) e in
-    let num : p.num ≡ block.num = eqb-true p.num block.num parts.1 in
-    let id : p.id ≡ block.id = same_id-true p.id block.id parts.0 in
-    rw (num, id) refl
 
 at_is : (r : Option BlockRef) (block : BlockRef) → is_at r block ≡ true → r ≡ Some block
 at_is None block e = absurd (cc e)

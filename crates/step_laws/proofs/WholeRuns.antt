@@ -9,13 +9,14 @@ use Rattle.chain_model.specs.Finality.{root_num}
 use Rattle.chain_model.specs.Steps.{plain_of}
 use Rattle.relay_model.specs.declared.answers.Conflict.{Conflict as Clash}
 use Rattle.relay_model.specs.Worlds.{World}
-use Rattle.relay_model.specs.Offers.{Answer, Closed, Duplicate, Conflict, Early, Stale, WaitFull, Waiting, HistoryFull, Admitted, offered, clash, judge_limit, judge_clash, judge_parent, judge_linked, judge_held, judge, answer_by, world_by}
+use Rattle.relay_model.specs.Offers.{Answer, Closed, Duplicate, Conflict, Early, Stale, WaitFull, Waiting, HistoryFull, Admitted, offered, clash, judge_limit, judge_clash, judge_parent, judge_linked, judge_held, judge, answer_by}
 use Rattle.relay_model.specs.Verdicts.{Verdict}
 use Rattle.relay_model.specs.Verdicts as verdict
 use Rattle.relay_model.specs.Runs.{run, is_ok, taken, dropped_by, dropped}
 use Rattle.step_text.specs.declared.refusals.Refusal.{Refusal}
 use Rattle.step_text.specs.StepText.{first_clash, refusal_of, steps_by, place_by, goes_on, step_lines, tell}
 use Rattle.step_laws.specs.Telling.{unless_refused, world_left}
+use Rattle.relay_model.proofs.public.Judged.{closed_by}
 
 -- offers in two parts
 run-append : (w : World) (later earlier : List Slip) → run w (later ++ earlier) ≡ run (run w earlier) later
@@ -88,18 +89,6 @@ ok_by w s is verdict.WaitFull e none = absurd (cc)
 ok_by w s is verdict.Waiting e none = refl
 ok_by w s is (verdict.HistoryFull need) e none = absurd (cc)
 ok_by w s is verdict.Admitted e none = refl
-
--- and no offer closes it
-closed_by : (w : World) (s : Slip) (v : Verdict) → (world_by w s v).closed ≡ w.closed
-closed_by w s verdict.Closed = refl
-closed_by w s verdict.Duplicate = refl
-closed_by w s (verdict.Conflict c) = refl
-closed_by w s verdict.Early = refl
-closed_by w s verdict.Stale = refl
-closed_by w s verdict.WaitFull = refl
-closed_by w s verdict.Waiting = refl
-closed_by w s (verdict.HistoryFull need) = refl
-closed_by w s verdict.Admitted = refl
 
 taken-append : (w : World) (later earlier : List Slip) → taken w (later ++ earlier) ≡ taken (run w earlier) later ++ taken w earlier
 taken-append w [] earlier = refl

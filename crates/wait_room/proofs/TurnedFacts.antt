@@ -41,10 +41,6 @@ pub all_of : {X : Type 0} (P : X → Type 0) → ((x : X) → P x) → (xs : Lis
 all_of P f [] = tt
 all_of P f (x ∷ xs) = (f x, all_of P f xs)
 
-pub all_from : {X : Type 0} (P Q : X → Type 0) → ((x : X) → P x → Q x) → (xs : List X) → AllByRecursion P xs → AllByRecursion Q xs
-all_from P Q f [] all = tt
-all_from P Q f (x ∷ xs) all = (f x all.0, all_from P Q f xs all.1)
-
 pub all_unmapped : {X Y : Type 0} (P : Y → Type 0) (f : X → Y) (xs : List X) → AllByRecursion P (map f xs) → AllByRecursion (λ x. P (f x)) xs
 all_unmapped P f [] all = tt
 all_unmapped P f (x ∷ xs) all = (all.0, all_unmapped P f xs all.1)

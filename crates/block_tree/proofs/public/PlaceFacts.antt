@@ -12,19 +12,20 @@ use Rattle.chain_model.specs.Finality.{ancestry_of}
 use Rattle.link_rows.specs.Tree.{ancestors, line_of}
 use Rattle.block_tree.specs.Places.{place_of, slip_at, slip_of, parent_places}
 
+-- an element of a list with one more at its end
+pub slice_get_before : {A : Type 0} (xs : List A) (x : A) (at : ℕ) → (at == length xs) ≡ false → slice_get (xs ++ x ∷ []) at ≡ slice_get xs at
+slice_get_before [] x zero ne = absurd (grind arith)
+slice_get_before [] x (suc at) ne = refl
+slice_get_before (y ∷ xs) x zero ne = refl
+slice_get_before (y ∷ xs) x (suc at) ne = slice_get_before xs x at (grind arith)
+
+pub slice_get_last : {A : Type 0} (xs : List A) (x : A) (at : ℕ) → (at == length xs) ≡ true → slice_get (xs ++ x ∷ []) at ≡ Some x
+slice_get_last [] x zero e = refl
+slice_get_last [] x (suc at) e = absurd (grind arith)
+slice_get_last (y ∷ xs) x zero e = absurd (grind arith)
+slice_get_last (y ∷ xs) x (suc at) e = slice_get_last xs x at (grind arith)
+
 -- blocks by place stand in order
-slice_get_before : (xs : List Slip) (s : Slip) (at : ℕ) → (at == length xs) ≡ false → slice_get (xs ++ s ∷ []) at ≡ slice_get xs at
-slice_get_before [] s zero ne = absurd (grind arith)
-slice_get_before [] s (suc at) ne = refl
-slice_get_before (x ∷ xs) s zero ne = refl
-slice_get_before (x ∷ xs) s (suc at) ne = slice_get_before xs s at (grind arith)
-
-slice_get_last : (xs : List Slip) (s : Slip) (at : ℕ) → (at == length xs) ≡ true → slice_get (xs ++ s ∷ []) at ≡ Some s
-slice_get_last [] s zero e = refl
-slice_get_last [] s (suc at) e = absurd (grind arith)
-slice_get_last (x ∷ xs) s zero e = absurd (grind arith)
-slice_get_last (x ∷ xs) s (suc at) e = slice_get_last xs s at (grind arith)
-
 pub slip_at-reverse : (newest : List Slip) (at : ℕ) → slip_at newest at ≡ slice_get (reverse newest) at
 slip_at-reverse [] at = refl
 slip_at-reverse (s ∷ older) at =

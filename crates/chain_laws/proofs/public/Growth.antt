@@ -10,7 +10,7 @@ use Rattle.block_record.specs.Ids.{same_id, same_id_refl}
 use Rattle.chain_model.specs.Ancestry.{find_id, ancestry, IsHistory}
 use Rattle.chain_model.specs.Finality.{claim, claims, agrees, ClaimsAgree, greater, greatest, final_tip, ancestry_of, final_ancestry}
 use Rattle.chain_laws.specs.Laws.{FinalPathGrows}
-use Rattle.chain_model.proofs.ScanFacts.{ancestry_past}
+use Rattle.chain_model.proofs.public.ScanFacts.{ancestry_past}
 use Rattle.chain_laws.proofs.public.Lines.{IsHistory-rest, has_id-find_id, find_id_past, find_id_at, other_id, is_above}
 
 -- a fact of each element is one of what is found

@@ -8,7 +8,7 @@ use Rattle.chain_model.specs.declared.places.Place.{Place}
 use Rattle.chain_model.specs.Ancestry.{find_id, has_id, ancestry, IsHistory}
 use Rattle.chain_model.specs.Finality.{ClaimsAgree}
 use Rattle.chain_model.specs.Steps.{BlockStep, ancestry_at, place_after, steps_of, target}
-use Rattle.chain_model.proofs.ScanFacts.{ancestry_past}
+use Rattle.chain_model.proofs.public.ScanFacts.{ancestry_past}
 use Rattle.chain_laws.proofs.public.Lines.{IsHistory-rest, has_id-ancestry, has_id-find_id, find_id_past, other_id, some_and}
 use Rattle.chain_laws.proofs.public.Growth.{ClaimsAgree-rest, grows_by_many}
 use Rattle.chain_laws.proofs.public.Reach.{has_id-append_right, has_id-suffix}

@@ -9,7 +9,7 @@ use Rattle.block_record.specs.declared.blocks.BlockRef.{BlockRef}
 use Rattle.block_record.specs.Ids.{same_id, same_id-true, same_id_refl}
 use Rattle.chain_model.specs.Ancestry.{find_id, has_id, ancestry, IsHistory}
 use Rattle.chain_model.specs.Steps.{keep_while, is_not, ref_of, parent_of, ancestry_at}
-use Rattle.chain_model.proofs.ScanFacts.{keep_while-all, ancestry_past, ancestry_met}
+use Rattle.chain_model.proofs.public.ScanFacts.{keep_while-all, ancestry_past, ancestry_met}
 use Rattle.chain_laws.proofs.public.Lines.{is_above, IsHistory-rest, has_parent, is_fresh, has_id-ancestry, has_id-find_id, find_id_past, find_id_at, other_id}
 use Rattle.chain_laws.proofs.public.Growth.{IsFound}
 use Rattle.chain_laws.proofs.public.Reach.{line_linked, IsLine, Nothing, From, IsLine_past, ancestry_line, head_is_found}

@@ -5,7 +5,7 @@ use mathlib.Core.List.{IsSuffix}
 use Rattle.block_record.specs.declared.blocks.Slip.{Slip}
 use Rattle.block_record.specs.Ids.{same_id, same_id-true}
 use Rattle.chain_model.specs.Ancestry.{find_id, has_id, ancestry, IsHistory}
-use Rattle.chain_model.proofs.ScanFacts.{ancestry_met, ancestry_past}
+use Rattle.chain_model.proofs.public.ScanFacts.{ancestry_met, ancestry_past}
 
 -- a block of an ancestry is in the history
 pub has_id-ancestry : (newest : List Slip) (id j : List ℕ) → has_id (ancestry newest id) j ≡ true → has_id newest j ≡ true

@@ -8,7 +8,7 @@ use Rattle.block_record.specs.Ids.{same_id, same_id-true, same_id_refl}
 use Rattle.chain_model.specs.Ancestry.{find_id, has_id, ancestry, IsHistory}
 use Rattle.chain_model.specs.Steps.{drop_while, ref_of}
 use Rattle.chain_model.specs.Fold.{follows_last}
-use Rattle.chain_model.proofs.ScanFacts.{ancestry_past, ancestry_met}
+use Rattle.chain_model.proofs.public.ScanFacts.{ancestry_past, ancestry_met}
 use Rattle.chain_laws.proofs.public.Lines.{IsHistory-rest, has_id-find_id, id-find_id, find_id_past, find_id_at, other_id, some_and, is_above}
 use Rattle.chain_laws.proofs.public.Growth.{IsFound, found_past, ancestry_found}
 use Rattle.chain_laws.proofs.public.LinkedLists.{Linked}

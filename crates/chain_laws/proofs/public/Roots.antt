@@ -7,7 +7,7 @@ use Rattle.block_record.specs.declared.blocks.Slip.{Slip}
 use Rattle.block_record.specs.Ids.{same_id, same_id_refl}
 use Rattle.chain_model.specs.Ancestry.{find_id, ancestry, IsHistory}
 use Rattle.chain_model.specs.Finality.{root_num, claim, greatest, final_tip, ancestry_of, final_ancestry}
-use Rattle.chain_model.proofs.ScanFacts.{ancestry_past, ancestry_met}
+use Rattle.chain_model.proofs.public.ScanFacts.{ancestry_past, ancestry_met}
 use Rattle.chain_laws.proofs.public.Lines.{IsHistory-rest, some_and, suffix_cons}
 use Rattle.chain_laws.proofs.public.Growth.{claim_found, tip_claimed}
 use Rattle.chain_laws.proofs.public.Reach.{IsLine, Nothing, From, head_is_found, has_id-suffix}

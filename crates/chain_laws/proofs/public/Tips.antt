@@ -7,7 +7,7 @@ use mathlib.Core.List.{IsSuffix}
 use Rattle.block_record.specs.declared.blocks.Slip.{Slip}
 use Rattle.chain_model.specs.Ancestry.{has_id, ancestry, IsHistory}
 use Rattle.chain_model.specs.Finality.{claim, claims, agrees, on_path, ClaimsAgree, greater, greatest, final_tip, ancestry_of, final_ancestry}
-use Rattle.chain_model.proofs.ScanFacts.{ancestry_past}
+use Rattle.chain_model.proofs.public.ScanFacts.{ancestry_past}
 use Rattle.chain_laws.proofs.public.Lines.{IsHistory-rest, is_above, other_id, has_id-find_id}
 use Rattle.chain_laws.proofs.public.Growth.{IsFound, find_passes, found_past, found_cases, claim_found, claim_kept, tip_claimed}
 use Rattle.chain_laws.proofs.public.Reach.{has_id-suffix}

@@ -1,5 +1,5 @@
 -- What blocks claim, and the final tip.
-use Rattle.std.proofs.Common.{arith, ◌≡◌, ◌<◌, ◌≤◌, ◌==◌, ℕ, Bool, true, false, cond, suc, zero, List, [], ◌∷◌, ◌++◌, length, reverse, Option, Some, None, refl, sym, ◌∙◌, ap, subst, nat_le, find, max, IsSome, IfSome, get_or, ltb, if◌then◌else◌, unwrap_or, ◌||◌, IsTrue}
+use Rattle.std.proofs.Common.{arith, ◌≡◌, ◌<◌, ◌≤◌, ◌==◌, ℕ, Bool, true, false, cond, suc, List, [], ◌∷◌, ◌++◌, length, reverse, Option, Some, None, refl, sym, ◌∙◌, ap, subst, nat_le, find, max, IsSome, IfSome, get_or, ltb, if◌then◌else◌, unwrap_or, ◌||◌, IsTrue}
 use Rattle.std.proofs.lemmas.List.{length-reverse, reverse-append, reverse-reverse}
 use Rattle.std.proofs.lemmas.Option.{same_Some, slice_get-get_or}
 use Rattle.std.specs.List.{slice_get, cons_option}
@@ -7,12 +7,12 @@ use Rattle.block_record.specs.Ids.{same_id, same_id_refl}
 use Rattle.block_record.specs.declared.blocks.Slip.{Slip}
 use Rattle.chain_model.specs.Ancestry.{find_id, has_id, ancestry, IsHistory}
 use Rattle.chain_model.specs.Finality.{claim, claims, final_tip, greater, greatest, root_num, on_path, ClaimsAgree}
-use Rattle.chain_model.proofs.ScanFacts.{ancestry_past}
+use Rattle.chain_model.proofs.public.ScanFacts.{ancestry_past}
 use Rattle.chain_laws.proofs.public.Lines.{IsHistory-rest, some_and, other_id, is_fresh, has_id-find_id, has_id-ancestry}
 use Rattle.chain_laws.proofs.public.Growth.{claims_kept, claim_kept}
 use Rattle.chain_laws.proofs.public.Tips.{claims_go_on_to_agree}
 use Rattle.block_tree.specs.Places.{slip_at, slip_of, place_of}
-use Rattle.block_tree.proofs.public.PlaceFacts.{slip_at_within, slip_at_past, slip_at_top, find_none}
+use Rattle.block_tree.proofs.public.PlaceFacts.{slip_at_within, slip_at_past, slip_at_top, find_none, slice_get_before, slice_get_last}
 use Rattle.block_tree.proofs.public.ParentFacts.{found_at}
 use Rattle.fork_db.specs.Claims.{AreClaims, claim_at}
 use Rattle.fork_db.specs.Verdicts.{agrees_with, agrees_next}
@@ -94,26 +94,14 @@ claims_length (s ∷ older) (c ∷ cs) h = ap suc (claims_length older cs h.2)
 claims_length (s ∷ older) [] h = absurd h
 claims_length [] (c ∷ cs) h = absurd h
 
-mark_before : (xs : List ℕ) (s at : ℕ) → (at == length xs) ≡ false → slice_get (xs ++ s ∷ []) at ≡ slice_get xs at
-mark_before [] s zero ne = absurd (grind arith)
-mark_before [] s (suc at) ne = refl
-mark_before (x ∷ xs) s zero ne = refl
-mark_before (x ∷ xs) s (suc at) ne = mark_before xs s at (grind arith)
-
-mark_last : (xs : List ℕ) (s at : ℕ) → (at == length xs) ≡ true → slice_get (xs ++ s ∷ []) at ≡ Some s
-mark_last [] s zero e = refl
-mark_last [] s (suc at) e = absurd (grind arith)
-mark_last (x ∷ xs) s zero e = absurd (grind arith)
-mark_last (x ∷ xs) s (suc at) e = mark_last xs s at (grind arith)
-
 pub mark_at-reverse : (newest : List ℕ) (at : ℕ) → mark_at newest at ≡ slice_get (reverse newest) at
 mark_at-reverse [] at = refl
 mark_at-reverse (s ∷ older) at =
     let turned : reverse (s ∷ older) ≡ reverse older ++ s ∷ [] = reverse-append (s ∷ []) older in
     let P : Bool → Type 0 = λ b. (at == length older) ≡ b → cond b (Some s) (mark_at older at) ≡ slice_get (reverse older ++ s ∷ []) at in
     rw turned ((elim (at == length older) as P [
-      | true ↦ λ e. sym (mark_last (reverse older) s at (rw (length-reverse older) e))
-      | false ↦ λ e. mark_at-reverse older at ∙ sym (mark_before (reverse older) s at (rw (length-reverse older) e))
+      | true ↦ λ e. sym (slice_get_last (reverse older) s at (rw (length-reverse older) e))
+      | false ↦ λ e. mark_at-reverse older at ∙ sym (slice_get_before (reverse older) s at (rw (length-reverse older) e))
     ]) refl)
 
 claim_marked : (newest : List Slip) (cs : List ℕ) (at c : ℕ) (s : Slip) → IsHistory newest → AreClaims newest cs → slip_at newest at ≡ Some s → mark_at cs at ≡ Some c
@@ -193,7 +181,7 @@ below_claim (t ∷ older) s p parent limit num lib r h ep ei e lt en el er =
     first ∙ same ∙ some_is (t ∷ older) s r (find (λ x. nat_le x.num limit) (ancestry (t ∷ older) p.id)) there er
 
 -- who is on a path does not change with one more block
-on_path_past : (s : Slip) (older : List Slip) (x y : Slip) → IsHistory (s ∷ older) → find_id older y.id ≡ Some y → on_path (s ∷ older) x y ≡ on_path older x y
+pub on_path_past : (s : Slip) (older : List Slip) (x y : Slip) → IsHistory (s ∷ older) → find_id older y.id ≡ Some y → on_path (s ∷ older) x y ≡ on_path older x y
 on_path_past s older x y h f = ap (λ l. has_id l x.id) (ancestry_past s older y.id (other_id s older h y.id (has_id-find_id older y.id y f)))
 
 -- an older claim agrees with the tip by their paths

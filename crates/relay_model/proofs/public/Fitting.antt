@@ -1,19 +1,16 @@
 -- A batch at the start begins at a place that fits.
 use Rattle.std.proofs.Common.{arith, ◌≡◌, ◌≤◌, ltb, ℕ, Bool, true, false, not, cond, List, [], ◌∷◌, length, Option, Some, None, refl, sym, ◌∙◌, ap, subst, ◌&&◌, if◌then◌else◌}
 use Rattle.std.specs.Prelude.{IsSomeAnd}
-use Rattle.std.proofs.Math.Dec.{eqb}
 use Rattle.std.proofs.lemmas.Bool.{and_parts, both_ways, eq-eqb, eqb-true, ltb-false}
 use Rattle.std.proofs.lemmas.Option.{same_Some}
 use Rattle.block_record.specs.declared.blocks.Slip.{Slip}
 use Rattle.block_record.specs.declared.blocks.BlockRef.{BlockRef}
-use Rattle.block_record.specs.Ids.{same_id, same_id-true}
 use Rattle.chain_model.specs.declared.places.Place.{Place}
 use Rattle.chain_model.specs.declared.places.Step.{Step}
 use Rattle.chain_model.specs.declared.places.Step.TheVariants as step
 use Rattle.chain_model.specs.Ancestry.{find_id, has_id, ancestry}
 use Rattle.chain_model.specs.Finality.{final_ancestry}
 use Rattle.chain_model.specs.Steps.{parent_of}
-use Rattle.chain_model.specs.Fold.{same_ref}
 use Rattle.chain_model.specs.Places.{IsHeld, PlaceFits, IsAhead, opening}
 use Rattle.chain_laws.proofs.public.Ends.{opening_fits}
 use Rattle.step_cursor.specs.declared.cursor.Cursor.{Cursor}
@@ -26,6 +23,7 @@ use Rattle.relay_model.specs.Worlds.{World}
 use Rattle.relay_model.specs.Soundness.{IsSound}
 use Rattle.relay_model.specs.Looks.{Batch, NotYet, Closing, StopBelow, look_from, look_idle, look_open, look_known, look_fitted, look_start, look_cursor, is_held, has_num, is_ref, ends_at_parent, unknown, misfit, is_ahead, shape_holds, end_fits, lib_fits, stops_below, end_num}
 use Rattle.relay_model.specs.Laws.{BatchBegins, BatchFits}
+use Rattle.chain_model.proofs.public.RefFacts.{ref_is}
 
 -- a block that the test finds held is held
 held_of : (newest : List Slip) (r : BlockRef) → is_held newest r ≡ true → IsHeld newest r
@@ -34,15 +32,6 @@ held_of newest r e = go (find_id newest r.id) e
     go : (o : Option Slip) → has_num o r.num ≡ true → IsSomeAnd o (λ s. s.num ≡ r.num)
     go None h = absurd (both_ways _ refl h)
     go (Some s) h = eqb-true _ _ h
-
--- references that the test finds equal are one
-ref_is : (a b : BlockRef) → same_ref a b ≡ true → a ≡ b
-ref_is a b e =
-    let p = and_parts (same_id a.id b.id) (eqb a.num b.num) e in
-    let id : a.id ≡ b.id = same_id-true a.id b.id p.0 in
-    let num : a.num ≡ b.num = eqb-true _ _ p.1 in
-    let whole : record { num = a.num; id = a.id } ≡ b = rw (id, num) refl in
-    whole
 
 -- the shape that the test finds is the step's
 shape_of : (newest : List Slip) (kind : Step) (block end lib : BlockRef)

@@ -6,7 +6,8 @@ use Rattle.chain_model.specs.Ancestry.{find_id}
 use Rattle.chain_model.specs.Finality.{root_num}
 use Rattle.relay_model.specs.declared.answers.Conflict.{Conflict as Clash}
 use Rattle.relay_model.specs.Worlds.{World}
-use Rattle.relay_model.specs.Offers.{tip_num, clash, judge_limit, judge_clash, judge_parent, judge_linked, judge_held, judge}
+use Rattle.relay_model.specs.Offers.{tip_num, clash, judge_limit, judge_clash, judge_parent, judge_linked, judge_held, judge, world_by}
+use Rattle.relay_model.specs.Verdicts.{Verdict}
 use Rattle.relay_model.specs.Verdicts as verdict
 
 -- the id is held nowhere
@@ -17,7 +18,7 @@ pub record IsNew (w : World) (s : Slip) : Type 0 where
 pub limit_takes : (w : World) (s : Slip) → judge_limit w s ≡ verdict.Waiting → ⊥
 limit_takes w s e = grind (arith, e)
 
-clash_waits : (w : World) (s : Slip) (o : Option Clash) → judge_clash w s o ≡ verdict.Waiting → ⊥
+pub clash_waits : (w : World) (s : Slip) (o : Option Clash) → judge_clash w s o ≡ verdict.Waiting → ⊥
 clash_waits w s None e = limit_takes w s e
 clash_waits w s (Some c) e = cc
 
@@ -104,3 +105,26 @@ judged_takes w s e =
       | inl shut ↦ absurd (grind (arith, e, shut))
       | inr open' ↦ held_takes w s (find_id (w.waiting ++ w.history) s.id) refl (rw open' at e)
     ]
+
+-- no offer moves the first number that a world takes, and none closes it
+pub first_by : (w : World) (s : Slip) (v : Verdict) → (world_by w s v).first ≡ w.first
+first_by w s verdict.Closed = refl
+first_by w s verdict.Duplicate = refl
+first_by w s (verdict.Conflict c) = refl
+first_by w s verdict.Early = refl
+first_by w s verdict.Stale = refl
+first_by w s verdict.WaitFull = refl
+first_by w s verdict.Waiting = refl
+first_by w s (verdict.HistoryFull need) = refl
+first_by w s verdict.Admitted = refl
+
+pub closed_by : (w : World) (s : Slip) (v : Verdict) → (world_by w s v).closed ≡ w.closed
+closed_by w s verdict.Closed = refl
+closed_by w s verdict.Duplicate = refl
+closed_by w s (verdict.Conflict c) = refl
+closed_by w s verdict.Early = refl
+closed_by w s verdict.Stale = refl
+closed_by w s verdict.WaitFull = refl
+closed_by w s verdict.Waiting = refl
+closed_by w s (verdict.HistoryFull need) = refl
+closed_by w s verdict.Admitted = refl

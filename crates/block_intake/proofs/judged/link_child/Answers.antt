@@ -1,12 +1,13 @@
-use Rattle.std.proofs.Common.{arith, ◌≡◌, Err, Some, ap, sym, ◌∙◌}
+use Rattle.std.proofs.Common.{arith, ◌≡◌, Err, ap, sym, ◌∙◌}
 use Rattle.block_record.specs.SlipRefs.{slip_seen}
 use Rattle.block_tree.proofs.public.PlaceFacts.{place_range, place_slip}
 use Rattle.fork_db.specs.Verdicts.{verdict_by, verdict_of}
 use Rattle.fork_db.specs.declared.db.Verdict.TheVariants as forks
 use Rattle.relay_model.specs.declared.answers.ConflictKind.TheVariants as kind
 use Rattle.block_intake.specs.Judged.{clash_at}
-use Rattle.block_intake.proofs.JudgedFacts.{clash_none, clash_num, clash_tip, num_differs, num_same, slip_there}
+use Rattle.block_intake.proofs.JudgedFacts.{clash_none, clash_num, clash_tip, num_differs, num_same}
 use Rattle.block_intake.proofs.judged.link_child.Goals as goal
+use Rattle.block_tree.proofs.public.WalkFacts.{slip_there}
 
 pub returns-in-Ok-clause-clash : goal.returns-in-Ok-clause-clash
 returns-in-Ok-clause-clash c =

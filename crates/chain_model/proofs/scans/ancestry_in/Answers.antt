@@ -1,5 +1,5 @@
 use Rattle.std.proofs.Common.{sym, ◌∙◌}
-use Rattle.chain_model.proofs.ScanFacts.{ancestry_push, ancestry_skip, ancestry_end}
+use Rattle.chain_model.proofs.public.ScanFacts.{ancestry_push, ancestry_skip, ancestry_end}
 use Rattle.chain_model.proofs.scans.ancestry_in.Goals as goal
 
 pub loop-newest-preserved-in_ok-push : goal.loop-newest-preserved-in_ok-push

@@ -2,7 +2,7 @@ use Rattle.std.proofs.Common.{◌∙◌, ap}
 use Rattle.std.proofs.lemmas.List.{take_rest}
 use Rattle.chain_model.specs.Steps.{keep_while, is_after}
 use Rattle.chain_model.specs.Seen.{seen, steps_seen}
-use Rattle.chain_model.proofs.ScanFacts.{all_steps}
+use Rattle.chain_model.proofs.public.ScanFacts.{all_steps}
 use Rattle.chain_model.proofs.steps.between.Goals as goal
 
 pub returns : goal.returns

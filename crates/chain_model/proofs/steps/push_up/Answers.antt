@@ -1,5 +1,5 @@
 use Rattle.std.proofs.Common.{arith, ◌+◌, ◌-◌, length}
-use Rattle.chain_model.proofs.ScanFacts.{push_last}
+use Rattle.chain_model.proofs.public.ScanFacts.{push_last}
 use Rattle.chain_model.proofs.steps.push_up.Goals as goal
 
 pub loop-i-preserved : goal.loop-i-preserved

@@ -1,4 +1,4 @@
-use Rattle.std.proofs.Common.{arith, sym, subst, ◌∙◌, ◌≡◌, ◌<◌, ◌==◌, ℕ, Bool, true, false, cond, refl, List, [], ◌∷◌, length, Some, IsTrue, IsSomeAnd}
+use Rattle.std.proofs.Common.{arith, sym, subst, ◌∙◌, ◌≡◌, ◌<◌, ◌==◌, ℕ, Bool, true, refl, List, [], ◌∷◌, length, Some, IsTrue, IsSomeAnd}
 use Rattle.block_record.specs.declared.blocks.Slip.{Slip}
 use Rattle.block_record.specs.declared.blocks.BlockRef.{BlockRef}
 use Rattle.chain_model.specs.Ancestry.{ancestry, find_id, has_id}
@@ -8,6 +8,7 @@ use Rattle.chain_laws.proofs.public.Lines.{some_and}
 use Rattle.block_tree.specs.Places.{slip_at}
 use Rattle.block_tree.proofs.public.PlaceFacts.{slip_at_within}
 use Rattle.fork_db.proofs.client.blocks_fit.Goals as goal
+use Rattle.block_tree.proofs.public.WalkFacts.{slip_there}
 
 -- the block at a place is the one at a reference
 abbrev IsAt : List Slip → ℕ → BlockRef → Type 0
@@ -18,15 +19,6 @@ place_within newest at r h =
     let s = some_and (slip_at newest at) (λ s. (find_id newest r.id ≡ Some s) × (s.id ≡ r.id) × (s.num ≡ r.num)) h in
     slip_at_within newest at s.0 s.1
 
-slip_at_some : (newest : List Slip) (at : ℕ) → at < length newest → (s : Slip) × (slip_at newest at ≡ Some s)
-slip_at_some [] at lt = absurd (let f : ⊥ = omega arith in f)
-slip_at_some (s ∷ older) at lt =
-    let P : Bool → Type 0 = λ b. (at == length older) ≡ b → (x : Slip) × (cond b (Some s) (slip_at older at) ≡ Some x) in
-    (elim (at == length older) as P [
-      | true ↦ λ _. (s, refl)
-      | false ↦ λ off. slip_at_some older at (let f : at < length older = grind (arith, off, lt) in f)
-    ]) refl
-
 fits_there : (newest : List Slip) (end lib : BlockRef) (e l t : ℕ) → IsAt newest e end → IsAt newest l lib
     → slip_at newest t ≡ final_tip newest → t < length newest
     → (b : Bool) → ((x y : Slip) → slip_at newest l ≡ Some x → slip_at newest t ≡ Some y → b ≡ on_path newest x y) → b ≡ true
@@ -35,7 +27,7 @@ fits_there : (newest : List Slip) (end lib : BlockRef) (e l t : ℕ) → IsAt ne
 fits_there newest end lib e l t he hl ht lt b hb is_b d hd is_d =
     let x = some_and (slip_at newest e) (λ s. (find_id newest end.id ≡ Some s) × (s.id ≡ end.id) × (s.num ≡ end.num)) he in
     let y = some_and (slip_at newest l) (λ s. (find_id newest lib.id ≡ Some s) × (s.id ≡ lib.id) × (s.num ≡ lib.num)) hl in
-    let z = slip_at_some newest t lt in
+    let z = slip_there newest t lt in
     let above : true ≡ on_path newest y.0 z.0 = sym is_b ∙ hb y.0 z.0 y.1 z.1 in
     let final : IsTrue (has_id (ancestry newest z.0.id) lib.id) = subst (λ i. IsTrue (has_id (ancestry newest z.0.id) i)) y.2.1 (subst IsTrue above refl) in
     let held : IsTrue (has_id (ancestry newest x.0.id) y.0.id) = subst IsTrue (hd y.0 x.0 y.1 x.1) is_d in

@@ -11,9 +11,6 @@ use Rattle.chain_model.specs.Ancestry.{IsHistory}
 use Rattle.chain_model.specs.Finality.{ClaimsAgree}
 use Rattle.fork_db.proofs.db.ForkDb.append_reserved.Goals as goal
 
-pub claim_place-claim-requires : goal.claim_place-claim-requires
-claim_place-claim-requires c = subst (λ v. IsLinkOf v.history c.args.slip c.args.linked) (sym c.self.view_is) c.requires.linked
-
 pub push-self-inside-requires-clause-parent : goal.push-self-inside-requires-clause-parent
 push-self-inside-requires-clause-parent c = subst (λ v. place_of v.history c.args.slip.parent_id ≡ c.args.linked.parent) (sym c.self.view_is) c.requires.linked.parent
 
@@ -28,12 +25,12 @@ later_tip-self-inside-requires-clause-tip c =
     tip_within _ _ _ _ c.push-self-inside.ensures.history next.history c.self.invariant.1
 
 pub later_tip-self-inside-requires-clause-claim : goal.later_tip-self-inside-requires-clause-claim
-later_tip-self-inside-requires-clause-claim c = omega (arith, ap length c.push-self-inside.ensures.history, c.claim_place-claim.ensures.range)
+later_tip-self-inside-requires-clause-claim c = omega (arith, ap length c.push-self-inside.ensures.history, c.claim_place-claim.ensures.range c.args.slip (subst (λ v. IsLinkOf v.history c.args.slip c.args.linked) (sym c.self.view_is) c.requires.linked))
 
 pub add-requires-clause-tip : goal.add-requires-clause-tip
 add-requires-clause-tip c =
     let next : IsNext c.args.slip c.self.inside.tree.history = fits_next _ _ c.len-at.ensures.sound (subst (λ v. verdict_of v.history c.args.slip ≡ fits) (sym c.self.view_is) c.requires.fits) in
-    next_tip _ _ _ _ _ _ c.push-self-inside.ensures.history next.history c.self.invariant.1 c.claim_place-claim.ensures.value c.later_tip-self-inside.ensures
+    next_tip _ _ _ _ _ _ c.push-self-inside.ensures.history next.history c.self.invariant.1 (c.claim_place-claim.ensures.value c.args.slip (subst (λ v. IsLinkOf v.history c.args.slip c.args.linked) (sym c.self.view_is) c.requires.linked)) c.later_tip-self-inside.ensures
 
 pub add-requires-clause-some : goal.add-requires-clause-some
 add-requires-clause-some c = omega (arith, ap length c.push-self-inside.ensures.history)
@@ -49,8 +46,8 @@ add-requires-clause-agreed c =
 pub invariant_of-self : goal.invariant_of-self
 invariant_of-self c =
     let next : IsNext c.args.slip c.self.inside.tree.history = fits_next _ _ c.len-at.ensures.sound (subst (λ v. verdict_of v.history c.args.slip ≡ fits) (sym c.self.view_is) c.requires.fits) in (
-      append_claims _ _ _ _ _ _ c.push-self-inside.ensures.history c.push_reserved.ensures.items c.claim_place-claim.ensures.value c.claim_place-claim.ensures.range c.self.invariant.0,
-      next_tip _ _ _ _ _ _ c.push-self-inside.ensures.history next.history c.self.invariant.1 c.claim_place-claim.ensures.value c.later_tip-self-inside.ensures,
+      append_claims _ _ _ _ _ _ c.push-self-inside.ensures.history c.push_reserved.ensures.items (c.claim_place-claim.ensures.value c.args.slip (subst (λ v. IsLinkOf v.history c.args.slip c.args.linked) (sym c.self.view_is) c.requires.linked)) (c.claim_place-claim.ensures.range c.args.slip (subst (λ v. IsLinkOf v.history c.args.slip c.args.linked) (sym c.self.view_is) c.requires.linked)) c.self.invariant.0,
+      next_tip _ _ _ _ _ _ c.push-self-inside.ensures.history next.history c.self.invariant.1 (c.claim_place-claim.ensures.value c.args.slip (subst (λ v. IsLinkOf v.history c.args.slip c.args.linked) (sym c.self.view_is) c.requires.linked)) c.later_tip-self-inside.ensures,
       subst ClaimsAgree (sym c.push-self-inside.ensures.history) (next_agrees _ _ next.history c.self.invariant.2 next.agrees),
       c.add.ensures.ranked,
       held_push _ _ _ _ _ _ c.push-self-inside.ensures.history c.push.ensures.blocks (slip_held _ c.args.block c.args.slip c.requires.slip) c.self.invariant.4,
