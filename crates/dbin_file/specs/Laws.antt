@@ -1,5 +1,5 @@
 -- What a container that was written is read as, as a law.
-use Rattle.std.specs.Prelude.{◌≡◌, List, [], ◌++◌, None, Some}
+use Rattle.std.specs.Prelude.{ℕ, ◌≡◌, List, [], ◌++◌, None, Some}
 use Rattle.block_record.specs.Texts.{IsBytes, IsTypeName}
 use Rattle.dbin_file.specs.Messages.{AreMessages}
 use Rattle.dbin_file.specs.Contents.{contents, container_text}
