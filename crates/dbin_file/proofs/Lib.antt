@@ -1,3 +1,4 @@
+pub mod public
 mod MessageFacts
 mod PieceFacts
 mod HeaderFacts
