@@ -1,11 +1,16 @@
 -- What a text says stays with a further piece.
-use Rattle.std.proofs.Common.{◌≡◌, ℕ, List, [], ◌∷◌, ◌++◌, Option, Some, None, refl, sym, ap, ◌∙◌}
+use Rattle.std.proofs.Common.{arith, ◌≡◌, ◌≤◌, ◌+◌, ℕ, zero, suc, Bool, true, false, List, [], ◌∷◌, ◌++◌, length, drop, Option, Some, None, refl, sym, ap, ◌∙◌, length-append, length-drop, length-take}
+use Rattle.std.specs.List.{flat_map}
+use Rattle.std.specs.Int.{w32, to_be_bytes}
+use Rattle.std.proofs.lemmas.List.Concat.{flat_map-cons}
 use Rattle.std.specs.Option.{is_some}
 use Rattle.std.proofs.lemmas.List.{append-nil}
 use Rattle.dbin_file.specs.declared.faults.DbinFault.{DbinFault}
 use Rattle.dbin_file.specs.Header.{type_bytes, header_fault, header_size}
+use Rattle.dbin_file.specs.Messages.{message_text, message_length, has_message, first_message, Split, onto, split_after, split}
 use Rattle.dbin_file.specs.Contents.{Contents, contents}
 use Rattle.dbin_file.specs.Reader.{ReaderState, state_after, found, AreFurther}
+use Rattle.dbin_file.proofs.MessageFacts.{has}
 use Rattle.dbin_file.proofs.HeaderFacts.{whole, same, is_bad, is_cut, is_whole, finds}
 use Rattle.dbin_file.proofs.StopFacts.{stopped}
 
@@ -80,3 +85,49 @@ typed_by text m more some = by_header (header_fault text) refl
     by_header : (o : Option DbinFault) → header_fault text ≡ o → (block_type : List ℕ) × ((contents text).block_type ≡ Some block_type)
     by_header None e = by_size e (header_size text) refl
     by_header (Some f) e = absurd (let b = (is_bad text f e).messages_are in let clash = sym b ∙ some in cc clash)
+
+-- ---- how long messages are
+
+message_and : (k : ℕ) (m rest : List ℕ) → length ((to_be_bytes w32 k ++ m) ++ rest) ≡ 4 + length m + length rest
+message_and k m rest = omega (arith, length-append (to_be_bytes w32 k ++ m) rest, length-append (to_be_bytes w32 k) m)
+
+-- the messages that some bytes begin with take no more bytes than there are
+split_fits : (n : ℕ) (bytes : List ℕ) → n ≤ length bytes → length (flat_map message_text (split_after n bytes).0) + n ≤ length bytes
+split_fits zero [] fits = omega arith
+split_fits (suc n) [] fits = absurd (omega (arith, fits))
+split_fits (suc n) (b ∷ bytes) fits = let more = split_fits n bytes (omega (arith, fits)) in omega (arith, more)
+split_fits zero (b ∷ bytes) fits = by_test (λ n within. split_fits n bytes within) (has_message (b ∷ bytes)) refl
+  where
+    by_test : ((n : ℕ) → n ≤ length bytes → length (flat_map message_text (split_after n bytes).0) + n ≤ length bytes) → (t : Bool) → has_message (b ∷ bytes) ≡ t
+        → length (flat_map message_text (split_after 0 (b ∷ bytes)).0) + 0 ≤ length (b ∷ bytes)
+    by_test more true e =
+        let h = has (b ∷ bytes) e in
+        let n = message_length (b ∷ bytes) in
+        let m : List ℕ = first_message (b ∷ bytes) in
+        let s = split_after (3 + n) bytes in
+        let later = more (3 + n) (omega (arith, h.whole)) in
+        let size : length m ≤ n = omega (arith, length-take n (drop 4 (b ∷ bytes))) in
+        let here : split_after 0 (b ∷ bytes) ≡ onto m s = rw e refl in
+        let total : length (flat_map message_text (split_after 0 (b ∷ bytes)).0) ≡ 4 + length m + length (flat_map message_text s.0) =
+        ap (λ (p : Split). length (flat_map message_text p.0)) here ∙ ap length (flat_map-cons message_text m s.0) ∙ message_and (length m) m (flat_map message_text s.0) in
+        omega (arith, total, size, later)
+    by_test more false e = rw e (omega arith)
+
+-- the messages of a text take no more bytes than it has
+pub messages_fit : (text : List ℕ) → length (flat_map message_text (contents text).messages) ≤ length text
+messages_fit text = by_header (header_fault text) refl
+  where
+    none : (contents text).messages ≡ [] → length (flat_map message_text (contents text).messages) ≤ length text
+    none e = rw e (omega arith)
+
+    by_size : header_fault text ≡ None → (o : Option ℕ) → header_size text ≡ o → length (flat_map message_text (contents text).messages) ≤ length text
+    by_size good None e = none (is_cut text good e).messages_are
+    by_size good (Some n) e =
+        let c : (contents text).messages ≡ (split (drop n text)).0 = ap (λ (c : Contents). c.messages) (is_whole text n good e) in
+        let all = split_fits 0 (drop n text) (omega arith) in
+        let same : length (flat_map message_text (contents text).messages) ≡ length (flat_map message_text (split (drop n text)).0) = ap (λ (l : List (List ℕ)). length (flat_map message_text l)) c in
+        omega (arith, same, all, length-drop n text)
+
+    by_header : (o : Option DbinFault) → header_fault text ≡ o → length (flat_map message_text (contents text).messages) ≤ length text
+    by_header None e = by_size e (header_size text) refl
+    by_header (Some f) e = none (is_bad text f e).messages_are

@@ -1,0 +1,9 @@
+//! A container on a shelf, read message by message.
+#![tactic(auto)]
+
+mod reader;
+
+pub use reader::FileReader;
+
+#[cfg(test)]
+mod tests;
