@@ -1,5 +1,5 @@
 -- The text of a block's own file.
-use Rattle.std.proofs.Common.{arith, ◌≡◌, ◌≤◌, ◌&&◌, ◌+◌, ℕ, nat_lt, nat_le, true, List, [], ◌∷◌, ◌++◌, length, None, sym, ap, subst, ◌∙◌}
+use Rattle.std.proofs.Common.{arith, ◌≡◌, ◌≤◌, ◌&&◌, ℕ, nat_lt, nat_le, true, List, [], ◌∷◌, ◌++◌, length, None, sym, ap, subst, ◌∙◌}
 use Rattle.std.specs.List.{list_all}
 use Rattle.std.specs.Int.{w32, to_be_bytes}
 use Rattle.std.proofs.lemmas.Bool.{and_parts, leb-true}

@@ -1,5 +1,5 @@
 -- What the first message of a file of one block tells of the file.
-use Rattle.std.proofs.Common.{◌≡◌, ◌+◌, ◌||◌, inl, inr, ℕ, Bool, nat_lt, List, [], ◌∷◌, length, Option, Some, None, Result, Ok, Err, refl, sym, ap, subst, ◌∙◌}
+use Rattle.std.proofs.Common.{◌≡◌, ◌+◌, ◌||◌, inl, inr, ℕ, Bool, nat_lt, List, [], ◌∷◌, length, Option, Some, None, Ok, refl, sym, ap, subst, ◌∙◌}
 use Rattle.std.specs.Prelude.{slice_get}
 use Rattle.std.specs.Option.{is_some, option_map, unwrap_or}
 use Rattle.std.proofs.lemmas.Bool.{or_parts}
@@ -12,7 +12,6 @@ use Rattle.one_block.proofs.public.ContainerFacts.{more_than_one, empty_of}
 use Rattle.one_block.specs.declared.file_faults.FileFault.{FileFault}
 use Rattle.one_block.specs.declared.file_faults.FileFault.TheVariants.{Bad, OtherType, Mem}
 use Rattle.one_block.specs.declared.forms.Form.{Form}
-use Rattle.one_block.specs.declared.singles.SingleRead.{SingleRead}
 use Rattle.one_block.specs.Heads.{HasHead, IsKept, AreRecordsOf}
 use Rattle.one_block.specs.Singles.{IsBadAfterHead, FormedRefused, FormedAnswers}
 use Rattle.one_block.specs.Forms.{own_name}

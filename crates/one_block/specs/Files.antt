@@ -1,5 +1,6 @@
 -- Whole names of files: a folder, a slash, a name and the ending `.dbin`.
-use Rattle.std.specs.Prelude.{ℕ, ◌-◌, ◌%◌, ◌==◌, List, [], ◌∷◌, ◌++◌, length, take, drop, codes, Option, None, Some, option_and_then, if◌then◌else◌}
+use Rattle.std.specs.Prelude.{ℕ, ◌≡◌, ◌⊎◌, ◌-◌, ◌%◌, ◌==◌, List, [], ◌∷◌, ◌++◌, length, take, drop, codes, Option, None, Some, option_and_then, if◌then◌else◌}
+use Rattle.std.specs.Option.{option_or}
 use Rattle.std.specs.Str.{bytes_eq}
 use Rattle.one_block.specs.Numerals.{padded, filled_number}
 
@@ -25,19 +26,32 @@ without_front front text = if bytes_eq (take (length front) text) front then Som
 abbrev pub bare_text : List ℕ → Option (List ℕ)
 bare_text file = option_and_then (without_ending (codes ".dbin")) (after_slash file)
 
--- the file of the blocks from this base on
-abbrev pub merged_text : ℕ → List ℕ
-merged_text base = whole_text (codes "merged") (padded 10 base)
+-- a file of merged blocks covers so many numbers
+abbrev pub IsSize : ℕ → Type 0
+IsSize size = (size ≡ 100) ⊎ (size ≡ 1000)
+
+-- the folder of the files of merged blocks of a size
+abbrev pub folder_of_size : ℕ → List ℕ
+folder_of_size size = if size == 1000 then codes "merged1000" else codes "merged"
+
+-- the file of a size that has the blocks from this base on
+abbrev pub merged_text : ℕ → ℕ → List ℕ
+merged_text size base = whole_text (folder_of_size size) (padded 10 base)
 
 -- the file of a block off the final path
 abbrev pub forked_text : ℕ → List ℕ → List ℕ
 forked_text num id = whole_text (codes "forked") (padded 10 num ++ 45 ∷ id)
 
--- a base is a multiple of 100
-abbrev pub base_of : ℕ → Option ℕ
-base_of n = if n % 100 == 0 then Some n else None
+-- a base is a multiple of the size
+abbrev pub base_of : ℕ → ℕ → Option ℕ
+base_of size n = if n % size == 0 then Some n else None
 
--- the base in the name of a file of merged blocks, and none where the text is no such name
+-- the base in the name of a file of merged blocks of a size, and none where the text is no such name
+abbrev pub base_in : ℕ → List ℕ → Option ℕ
+base_in size file =
+    option_and_then (base_of size) (option_and_then (filled_number 10) (option_and_then (without_ending (codes ".dbin"))
+    (option_and_then (without_front (codes "/")) (without_front (folder_of_size size) file))))
+
+-- the same of either size
 abbrev pub merged_base_of : List ℕ → Option ℕ
-merged_base_of file =
-    option_and_then base_of (option_and_then (filled_number 10) (option_and_then (without_ending (codes ".dbin")) (without_front (codes "merged/") file)))
+merged_base_of file = option_or (base_in 100 file) (base_in 1000 file)

@@ -5,6 +5,7 @@ pub mod Names
 pub mod Reading
 pub mod Seen
 pub mod Files
+pub mod Layout
 pub mod Laws
 pub mod Containers
 pub mod OneFiles

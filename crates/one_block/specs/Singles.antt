@@ -1,5 +1,5 @@
 -- Files of one block each.
-use Rattle.std.specs.Prelude.{ℕ, ◌≡◌, ◌≢◌, ◌+◌, ◌||◌, ◌⊎◌, nat_lt, IsTrue, List, [], ◌∷◌, length, Option, None, Some, ⊤, Result, Ok, Err}
+use Rattle.std.specs.Prelude.{ℕ, ◌≡◌, ◌≢◌, ◌+◌, ◌||◌, ◌⊎◌, nat_lt, IsTrue, List, [], ◌∷◌, length, Option, ⊤, Result, Ok, Err}
 use Rattle.std.specs.Option.{is_some}
 use Rattle.block_record.specs.declared.blocks.Block.{Block}
 use Rattle.block_record.specs.Slips.{slip}

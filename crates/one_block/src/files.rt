@@ -2,7 +2,7 @@
 
 ghost use Rattle.std.specs.Prelude.{◌≡◌, ◌%◌, IfOk};
 ghost use Rattle.std.specs.Option.{option_copied};
-ghost use Rattle.one_block.specs.Files.{whole_text, after_slash as slash_rest, without_ending as unended, without_front as unfronted, bare_text, merged_text, forked_text, merged_base_of};
+ghost use Rattle.one_block.specs.Files.{whole_text, after_slash as slash_rest, without_ending as unended, without_front as unfronted, bare_text, IsSize, folder_of_size, merged_text, forked_text, base_in, merged_base_of};
 
 use crate::print::push_padded;
 use crate::read::read_filled;
@@ -35,12 +35,27 @@ pub fn bare_name(alloc: Global, file: &FileName) -> Result<Option<FileName>, All
     }
 }
 
-/// The whole name of the file of merged blocks from this base on.
-pub fn merged_name(alloc: Global, base: u64) -> Result<FileName, AllocError>
-    requires { base % 100 ≡ 0 }
-    ensures { IfOk result (λ file. file ≡ merged_text base) }
+/// The folder of the files of merged blocks of a size: `merged` for 100, `merged1000` for 1,000. The
+/// size is how many numbers each file covers.
+pub fn merged_folder(size: u64) -> &'static str
+    requires { IsSize size }
+    ensures { result.now ≡ folder_of_size size }
 {
-    let mut text = Vec::from_slice(alloc, b"merged/")?;
+    if size == 1_000 {
+        "merged1000"
+    } else {
+        "merged"
+    }
+}
+
+/// The whole name of the file of merged blocks from this base on, in the folder of this size.
+pub fn merged_name(alloc: Global, size: u64, base: u64) -> Result<FileName, AllocError>
+    requires size { IsSize size }
+    requires base { base % size ≡ 0 }
+    ensures { IfOk result (λ file. file ≡ merged_text size base) }
+{
+    let mut text = Vec::from_slice(alloc, merged_folder(size).as_bytes())?;
+    text.push(b'/')?;
     push_padded(10, base, &mut text)?;
     text.extend_from_slice(b".dbin")?;
     Ok(FileName::from_vec(text))
@@ -58,13 +73,23 @@ pub fn forked_name(alloc: Global, num: u64, id: &Id) -> Result<FileName, AllocEr
     Ok(FileName::from_vec(text))
 }
 
-/// The base in the whole name of a file of merged blocks, or none where the text is no such name.
+/// The base in the whole name of a file of merged blocks of either size, or none where the text is no
+/// such name.
 pub fn merged_base(file: &FileName) -> Option<u64>
     ensures { result ≡ merged_base_of file.now }
 {
-    let rest = without_front(file.as_bytes(), b"merged/")?;
-    let base = read_filled(10, without_ending(rest, b".dbin")?)?;
-    if base % 100 == 0 { Some(base) } else { None }
+    merged_base_in(100, file).or(merged_base_in(1_000, file))
+}
+
+/// The same of a file in the folder of this size.
+pub fn merged_base_in(size: u64, file: &FileName) -> Option<u64>
+    requires { IsSize size }
+    ensures { result ≡ base_in size file.now }
+{
+    let rest = without_front(file.as_bytes(), merged_folder(size).as_bytes())?;
+    let name = without_front(rest, b"/")?;
+    let base = read_filled(10, without_ending(name, b".dbin")?)?;
+    if base % size == 0 { Some(base) } else { None }
 }
 
 /// What stands between the first slash and the ending.

@@ -8,6 +8,7 @@ mod files;
 mod forms;
 mod heads;
 mod laws;
+mod layout;
 mod moments;
 mod names;
 mod parse;
@@ -19,10 +20,13 @@ mod singles;
 pub use containers::{FileContents, copy_type, end_place, read_contents, read_record};
 pub use faults::{Put, StoreFault};
 pub use file_faults::FileFault;
-pub use files::{bare_name, forked_name, merged_base, merged_name, whole_name};
+pub use files::{
+    bare_name, forked_name, merged_base, merged_base_in, merged_folder, merged_name, whole_name,
+};
 pub use forms::{Folder, Form, form_of, own_name};
 pub use heads::{decode_at, head_type};
-pub use laws::{files_are_read, names_are_read};
+pub use laws::{files_are_read, layouts_are_read, names_are_read};
+pub use layout::{layout_name, read_layout, size_text};
 pub use names::{NameParts, name_of};
 pub use parse::parse_name;
 pub use put::put_block;

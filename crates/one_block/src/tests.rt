@@ -193,7 +193,7 @@ fn whole_names_have_folder_and_ending(rt: HostRuntime) -> Result<(), Fail> {
     let whole = whole_name(alloc, "one", &bare)?;
     assert!(rt; whole.as_bytes() == b"one/a-b.dbin".as_slice());
     assert!(rt; bare_name(alloc, &whole)? == Some(bare));
-    assert!(rt; merged_name(alloc, 0)?.as_bytes() == b"merged/0000000000.dbin".as_slice());
+    assert!(rt; merged_name(alloc, 100, 0)?.as_bytes() == b"merged/0000000000.dbin".as_slice());
     let forked = forked_name(alloc, 12_345_678_901, &id(alloc, "b12")?)?;
     assert!(rt; forked.as_bytes() == b"forked/12345678901-b12.dbin".as_slice());
     Ok(())

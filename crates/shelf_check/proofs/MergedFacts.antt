@@ -3,7 +3,7 @@ use Rattle.std.proofs.Common.{arith, ◌≡◌, ◌<◌, ◌≤◌, ◌+◌, ◌
 use Rattle.std.proofs.lemmas.List.{length-map, length-reverse, take_more, take_all, map-append}
 use Rattle.block_record.specs.declared.blocks.BlockRef.{BlockRef}
 use Rattle.dbin_file.specs.Contents.{told}
-use Rattle.one_block.specs.Files.{merged_base_of}
+use Rattle.one_block.specs.Files.{base_in}
 use Rattle.outer_world.specs.Files.{Files}
 use Rattle.one_block.specs.declared.file_faults.FileFault.{FileFault}
 use Rattle.one_block.specs.declared.file_faults.FileFault.TheVariants.{Bad}
@@ -17,16 +17,16 @@ use Rattle.shelf_check.proofs.ListFacts.{taken_more, cut_at}
 pub based_none : (names : List (List ℕ)) → AreBased (take 0 names) []
 based_none names = record { names_are = refl; bases = refl }
 
-based_bases : (front : List (List ℕ)) (entries : List Entry) (name : List ℕ) (base : ℕ) → AreBased front entries → Some base ≡ merged_base_of name → AreBased (front ++ name ∷ []) (entries ++ (base, name) ∷ [])
+based_bases : (front : List (List ℕ)) (entries : List Entry) (name : List ℕ) (base : ℕ) → AreBased front entries → Some base ≡ base_in 100 name → AreBased (front ++ name ∷ []) (entries ++ (base, name) ∷ [])
 based_bases front entries name base b is = record {
   names_are = ap (λ (l : List (List ℕ)). l ++ name ∷ []) b.names_are ∙ sym (map-append (λ (e : Entry). e.1) entries ((base, name) ∷ []));
   bases =
-      map-append merged_base_of front (name ∷ []) ∙ ap (λ (l : List (Option ℕ)). l ++ merged_base_of name ∷ []) b.bases
+      map-append (base_in 100) front (name ∷ []) ∙ ap (λ (l : List (Option ℕ)). l ++ base_in 100 name ∷ []) b.bases
       ∙ ap (λ (o : Option ℕ). map (λ (e : Entry). Some e.0) entries ++ o ∷ []) (sym is) ∙ sym (map-append (λ (e : Entry). Some e.0) entries ((base, name) ∷ []));
 }
 
 -- one more name
-pub based_more : (names : List (List ℕ)) (entries entries' : List Entry) (i : ℕ) (name : List ℕ) (base : ℕ) → i < length names → name ≡ get_or names i name → AreBased (take i names) entries → Some base ≡ merged_base_of name
+pub based_more : (names : List (List ℕ)) (entries entries' : List Entry) (i : ℕ) (name : List ℕ) (base : ℕ) → i < length names → name ≡ get_or names i name → AreBased (take i names) entries → Some base ≡ base_in 100 name
     → entries' ≡ entries ++ (base, name) ∷ [] → AreBased (take (i + 1) names) entries'
 based_more names entries entries' i name base within item b is grown =
     let taken : take (i + 1) names ≡ take i names ++ name ∷ [] = take_more names i name within ∙ ap (λ (n : List ℕ). take i names ++ n ∷ []) (sym item) in
@@ -35,12 +35,12 @@ based_more names entries entries' i name base within item b is grown =
     subst P (sym taken) (subst Q (sym grown) (based_bases (take i names) entries name base b is))
 
 -- a name of another form
-pub other_name : (names : List (List ℕ)) (entries : List Entry) (i : ℕ) (name : List ℕ) → i < length names → name ≡ get_or names i name → AreBased (take i names) entries → None ≡ merged_base_of name → IsOtherName names name (Bad 0)
+pub other_name : (names : List (List ℕ)) (entries : List Entry) (i : ℕ) (name : List ℕ) → i < length names → name ≡ get_or names i name → AreBased (take i names) entries → None ≡ base_in 100 name → IsOtherName names name (Bad 0)
 other_name names entries i name within item b none = record {
   entries = entries;
   more = drop (suc i) names;
   names_are = cut_at names (map (λ e. e.1) entries) i name within item b.names_are;
-  bases = ap (map merged_base_of) (sym b.names_are) ∙ b.bases;
+  bases = ap (map (base_in 100)) (sym b.names_are) ∙ b.bases;
   other = sym none;
   place = refl;
 }

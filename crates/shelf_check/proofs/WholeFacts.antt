@@ -12,7 +12,7 @@ use Rattle.std.proofs.lemmas.List.{length-map}
 use Rattle.block_record.specs.declared.blocks.Block.{Block}
 use Rattle.block_record.specs.declared.blocks.BlockRef.{BlockRef}
 use Rattle.dbin_file.specs.Contents.{contents}
-use Rattle.one_block.specs.Files.{merged_base_of}
+use Rattle.one_block.specs.Files.{base_in}
 use Rattle.one_block.specs.declared.faults.StoreFault.TheVariants as store
 use Rattle.outer_world.specs.Files.{Files, file_at}
 use Rattle.shelf_check.specs.declared.check.Report.{Report}
@@ -133,7 +133,7 @@ based_same (x ∷ xs) (y ∷ ys) names bases =
 
 ordered_same : (names shown : List (List ℕ)) (xs ys : List Entry) → AreOrdered names xs → AreOrdered shown ys → names ≡ shown → xs ≡ ys
 ordered_same names shown xs ys a b same =
-    let found : a.found ≡ b.found = based_same a.found b.found (sym a.based.names_are ∙ same ∙ b.based.names_are) (sym a.based.bases ∙ ap (map merged_base_of) same ∙ b.based.bases) in
+    let found : a.found ≡ b.found = based_same a.found b.found (sym a.based.names_are ∙ same ∙ b.based.names_are) (sym a.based.bases ∙ ap (map (base_in 100)) same ∙ b.based.bases) in
     sorted_same entry_order entry_total entry_exact b.found xs ys (subst (λ (l : List Entry). IsPermutation l xs) found a.all) b.all a.in_order b.in_order
 
 abbrev entry_of : Bundle → Entry
@@ -170,15 +170,15 @@ older_bundles files [] x older good = good
 older_bundles files (n ∷ newer) x older good = older_bundles files newer x older good.1
 
 -- each name has a base
-no_other_name : (front : List (List ℕ)) (name : List ℕ) (more : List (List ℕ)) (entries : List Entry) → map merged_base_of (front ++ name ∷ more) ≡ map (λ e. Some e.0) entries → merged_base_of name ≡ None → ⊥
+no_other_name : (front : List (List ℕ)) (name : List ℕ) (more : List (List ℕ)) (entries : List Entry) → map (base_in 100) (front ++ name ∷ more) ≡ map (λ e. Some e.0) entries → base_in 100 name ≡ None → ⊥
 no_other_name [] name more [] e none = cc e
 no_other_name [] name more (x ∷ xs) e none =
-    let head : merged_base_of name ≡ Some x.0 = cc e in
+    let head : base_in 100 name ≡ Some x.0 = cc e in
     let clash : (let o : Option ℕ = None in o) ≡ Some x.0 = sym none ∙ head in
     cc clash
 no_other_name (f ∷ front) name more [] e none = cc e
 no_other_name (f ∷ front) name more (x ∷ xs) e none =
-    let tail : map merged_base_of (front ++ name ∷ more) ≡ map (λ (e : Entry). Some e.0) xs = cc e in
+    let tail : map (base_in 100) (front ++ name ∷ more) ≡ map (λ (e : Entry). Some e.0) xs = cc e in
     no_other_name front name more xs tail none
 
 -- a good file is not bad
@@ -205,7 +205,7 @@ module _ (files : Files) (bundles : List Bundle) (good : IsMerged (Some files) b
       names_same = good.listed.all ∙ sym bad.listed.all
 
       by_cause : IsOtherName bad.names name fault ⊎ IsFirstBased (Some files) bad.names name fault → fault ≡ Mem
-      by_cause (inl o) = absurd (no_other_name (map (λ (e : Entry). e.1) o.entries) name o.more good.ordered.found (sym (ap (map merged_base_of) (names_same ∙ o.names_are)) ∙ good.ordered.based.bases) o.other)
+      by_cause (inl o) = absurd (no_other_name (map (λ (e : Entry). e.1) o.entries) name o.more good.ordered.found (sym (ap (map (base_in 100)) (names_same ∙ o.names_are)) ∙ good.ordered.based.bases) o.other)
       by_cause (inr b) = no_bad_bundle files (kept_of s.older) (tip_of s.older) s.x b.first.base name fault parts.0 at_older (ap (λ (e : Entry). e.0) (sym s.item)) (ap (λ (e : Entry). e.1) (sym s.item))
         where
           s : Split entry_of bundles (b.first.base, name) b.first.bundles

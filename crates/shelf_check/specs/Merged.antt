@@ -7,7 +7,7 @@ use Rattle.std.specs.Cmp.Lexicographic.{slice_cmp}
 use Rattle.block_record.specs.declared.blocks.Block.{Block}
 use Rattle.block_record.specs.declared.blocks.BlockRef.{BlockRef}
 use Rattle.dbin_file.specs.Contents.{told}
-use Rattle.one_block.specs.Files.{merged_base_of}
+use Rattle.one_block.specs.Files.{base_in}
 use Rattle.outer_world.specs.Files.{Files}
 use Rattle.outer_world.specs.Shelves.{AreNamesOf}
 use Rattle.one_block.specs.declared.file_faults.FileFault.{FileFault}
@@ -29,7 +29,7 @@ entry_order a b = ordering_then (nat_cmp a.0 b.0) (slice_cmp nat_cmp a.1 b.1)
 -- each of these names is that of a file of merged blocks, and these are the bases and names
 pub record AreBased (names : List (List ℕ)) (entries : List Entry) : Type 0 where
   pub names_are : names ≡ map (λ e. e.1) entries
-  pub bases : map merged_base_of names ≡ map (λ e. Some e.0) entries
+  pub bases : map (base_in 100) names ≡ map (λ e. Some e.0) entries
 
 -- the same in the order of bases
 pub record AreOrdered (names : List (List ℕ)) (entries : List Entry) : Type 0 where
@@ -87,8 +87,8 @@ pub record IsOtherName (names : List (List ℕ)) (name : List ℕ) (fault : File
   pub entries : List Entry
   pub more : List (List ℕ)
   pub names_are : names ≡ map (λ e. e.1) entries ++ name ∷ more
-  pub bases : map merged_base_of (map (λ e. e.1) entries) ≡ map (λ e. Some e.0) entries
-  pub other : merged_base_of name ≡ None
+  pub bases : map (base_in 100) (map (λ e. e.1) entries) ≡ map (λ e. Some e.0) entries
+  pub other : base_in 100 name ≡ None
   pub place : fault ≡ Bad 0
 
 -- the file of this base and name is refused for this, after files of this type and after this block

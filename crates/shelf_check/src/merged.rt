@@ -7,7 +7,7 @@ use crate::bundles::check_bundle;
 use crate::faults::{LoadFault, bad_file, with_name};
 use crate::folders::read_text;
 use block_record::{BlockRef, TypeName};
-use one_block::merged_base;
+use one_block::merged_base_in;
 use outer_world::{FileName, Shelf};
 use std::alloc::{AllocError, Global};
 
@@ -44,7 +44,7 @@ fn based(alloc: Global, names: &[FileName]) -> Result<Vec<(u64, FileName)>, Load
 {
     let mut entries = Vec::new(alloc);
     for name in names {
-        match merged_base(name) {
+        match merged_base_in(100, name) {
             Some(base) => add_entry(alloc, base, name, &mut entries)?,
             None => return Err(bad_file(alloc, name, 0)),
         }
