@@ -27,6 +27,15 @@ unread name = record { name = name; at = 0; reader = state_after []; left = []; 
 abbrev pub bytes_of : List (List ℕ) → ℕ
 bytes_of messages = length (flat_map message_text messages)
 
+-- where the next message's length begins in a container of this type, after messages that take so many bytes
+abbrev pub next_place : Option (List ℕ) → ℕ → ℕ
+next_place None passed = 0
+next_place (Some block_type) passed = told (7 + length block_type + passed)
+
+-- where the next message's length begins, once the header was read
+abbrev pub place_of : FileState → ℕ
+place_of r = next_place r.reader.block_type r.passed
+
 -- a reader whose next message is passed over, if there is one
 abbrev pub pass : FileState → List (List ℕ) → FileState
 pass r [] = r

@@ -7,7 +7,7 @@ ghost use Rattle.outer_world.specs.Files.{Files};
 ghost use Rattle.outer_world.specs.Shelves.{HasShelfCause};
 ghost use Rattle.dbin_file.specs.Contents.{contents, message_place, told};
 ghost use Rattle.dbin_file.specs.Reader.{AreFurther, end_fault, state_after};
-ghost use Rattle.file_reader.specs.Reading.{HasRead, ReadsOn, UnlessMem, pass, unread};
+ghost use Rattle.file_reader.specs.Reading.{HasRead, ReadsOn, UnlessMem, pass, place_of as place_of_next, unread};
 
 use block_record::{Bytes, TypeName};
 use dbin_file::{DbinFault, DbinReader};
@@ -110,7 +110,7 @@ impl FileReader {
         ensures message { (files : Option Files) (front block_type : List ℕ) (given : List (List ℕ))
             → HasRead files self.now front given → self.now.reader.block_type ≡ Some block_type
             → result ≡ told (message_place block_type given) }
-        ensures none { self.now.reader.block_type ≡ None → result ≡ 0 }
+        ensures state { result ≡ place_of_next self.now }
     {
         match self.reader.block_type() {
             Some(block_type) => self

@@ -1,13 +1,17 @@
 -- What the messages that were read say of the whole file.
-use Rattle.std.proofs.Common.{◌≡◌, ℕ, IsTrue, List, [], ◌∷◌, ◌++◌, Option, Some, None, inl, inr, refl, sym, ap, ◌∙◌, append_assoc}
+use Rattle.std.proofs.Common.{arith, ◌≡◌, ◌≤◌, ◌<◌, ◌^◌, ℕ, IsTrue, List, [], ◌∷◌, ◌++◌, length, Option, Some, None, inl, inr, refl, sym, ap, ◌∙◌, append_assoc, length-append}
+use Rattle.std.specs.List.{flat_map}
+use Rattle.std.specs.Int.{w32, to_be_bytes}
+use Rattle.std.proofs.lemmas.List.Concat.{flat_map-cons}
 use Rattle.std.specs.Option.{is_some}
 use Rattle.std.proofs.lemmas.List.{append-nil}
 use Rattle.outer_world.specs.Files.{Files}
 use Rattle.dbin_file.specs.declared.faults.DbinFault.{DbinFault}
+use Rattle.dbin_file.specs.Messages.{message_text}
 use Rattle.dbin_file.specs.Contents.{contents}
 use Rattle.dbin_file.specs.Reader.{ReaderState, state_after, end_fault}
-use Rattle.dbin_file.proofs.public.FurtherFacts.{goes_on, stands, typed_by}
-use Rattle.file_reader.specs.Reading.{FileState, HasText, HasFront, IsLast, HasRead, IsNextIn, IsAll}
+use Rattle.dbin_file.proofs.public.FurtherFacts.{goes_on, messages_fit, stands, typed_by}
+use Rattle.file_reader.specs.Reading.{FileState, bytes_of, HasText, HasFront, IsLast, HasRead, IsNextIn, IsAll}
 
 -- a file that begins with a text has a text that goes on with a piece
 whole_of : (files : Option Files) (name front : List ℕ) → HasFront files name front → (piece : List ℕ) × HasText files name (front ++ piece)
@@ -81,3 +85,13 @@ all_passed files r front given h none over = by_end (h.last over)
       size = λ fine. sym h.at_is;
     }
     by_end (inr bad) = by_fault (contents front).fault refl bad
+
+-- ---- numbers
+
+one_more : (ms : List (List ℕ)) → length ms ≤ bytes_of ms
+one_more [] = omega arith
+one_more (m ∷ ms) = omega (arith, one_more ms, ap length (flat_map-cons message_text m ms), length-append (message_text m) (flat_map message_text ms), length-append (to_be_bytes w32 (length m)) m)
+
+-- the messages that were read can be counted, and so can their bytes
+pub counted : (files : Option Files) (r : FileState) (front : List ℕ) (given : List (List ℕ)) → HasRead files r front given → length (given ++ r.left) < 2 ^ 64
+counted files r front given h = omega (arith, one_more (given ++ r.left), messages_fit front, ap bytes_of h.messages, h.small)
