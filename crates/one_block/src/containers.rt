@@ -104,7 +104,7 @@ pub fn end_place(fault: Option<DbinFault>, len: usize) -> u64
 }
 
 /// The place of a container's fault.
-fn fault_place(fault: DbinFault) -> u64
+pub fn fault_place(fault: DbinFault) -> u64
     ensures { result ≡ place_of_fault fault }
 {
     match fault {

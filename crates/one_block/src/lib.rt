@@ -17,7 +17,7 @@ mod put;
 mod read;
 mod singles;
 
-pub use containers::{FileContents, copy_type, end_place, read_contents, read_record};
+pub use containers::{FileContents, copy_type, end_place, fault_place, read_contents, read_record};
 pub use faults::{Put, StoreFault};
 pub use file_faults::FileFault;
 pub use files::{
