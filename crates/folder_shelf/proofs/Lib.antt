@@ -1,0 +1,2 @@
+pub mod InsideFacts
+pub mod SortedFacts
