@@ -1,10 +1,10 @@
 -- A name right in a folder is one of that folder.
-use Rattle.std.proofs.Common.{◌≡◌, ◌∙◌, ℕ, Bool, true, false, not, ◌&&◌, List, [], ◌∷◌, ◌++◌, length, take, drop, refl, sym, ap}
+use Rattle.std.proofs.Common.{◌≡◌, ℕ, Bool, true, false, not, ◌&&◌, List, [], ◌∷◌, refl}
 use Rattle.std.proofs.Math.Seq.{take-append_seam, drop-append_seam}
-use Rattle.std.specs.Prelude.{IsTrue, codes, nat_eq}
+use Rattle.std.specs.Prelude.{IsTrue, codes}
 use Rattle.std.specs.List.{list_any}
 use Rattle.std.specs.Str.{bytes_eq}
-use Rattle.outer_world.specs.Files.{is_in, is_last_part}
+use Rattle.outer_world.specs.Files.{is_in}
 use Rattle.outer_world.proofs.FileFacts.{same_name}
 use Rattle.folder_shelf.specs.Names.{is_part, is_slash, joined}
 

@@ -163,28 +163,27 @@ fn a_name_that_leaves_the_folder_is_refused(rt: HostRuntime) -> Result<(), Fail>
     Ok(())
 }
 
+/// Whether a second lock is refused while one is held, and the folder is settled under the one.
+fn is_locked_and_settled(rt: &HostRuntime, root: &str) -> Result<bool, LockFail> {
+    let lock = FolderLock::take(rt, root)?;
+    let second = FolderLock::take(rt, root);
+    Ok(lock.settle(rt).is_ok() && matches!(&second, Err(LockFail::Taken)))
+}
+
 #[test]
 fn a_folder_is_locked_once_and_settled(rt: HostRuntime) -> Result<(), Fail> {
     let root = "folder_shelf_lock";
     clear(&rt, root);
-    assert!(rt;
-        matches!(
-            FolderLock::take(&rt, "folder_shelf_none/in_none"),
-            Err(LockFail::Failed)
-        )
-    );
-    {
-        let lock = FolderLock::take(&rt, root);
-        assert!(rt; matches!(FolderLock::take(&rt, root), Err(LockFail::Taken)));
-        for file in ["folder_shelf_lock/stage.12", "folder_shelf_lock/stage.x"] {
-            fs::write(&rt, file, "")?;
-        }
-        fs::create_dir(&rt, "folder_shelf_lock/one")?;
-        assert!(rt; matches!(lock, Ok(lock) if lock.settle(&rt).is_ok()));
+    let orphan = FolderLock::take(&rt, "folder_shelf_none/in_none");
+    assert!(rt; matches!(&orphan, Err(LockFail::Failed)));
+    fs::create_dir_all(&rt, "folder_shelf_lock/one")?;
+    for file in ["folder_shelf_lock/stage.12", "folder_shelf_lock/stage.x"] {
+        fs::write(&rt, file, "")?;
     }
+    assert!(rt; matches!(is_locked_and_settled(&rt, root), Ok(true)));
     assert!(rt; !fs::exists(&rt, "folder_shelf_lock/stage.12")?);
     assert!(rt; fs::exists(&rt, "folder_shelf_lock/stage.x")?);
-    assert!(rt; FolderLock::take(&rt, root).is_ok());
+    assert!(rt; matches!(is_locked_and_settled(&rt, root), Ok(true)));
     clear(&rt, root);
     Ok(())
 }

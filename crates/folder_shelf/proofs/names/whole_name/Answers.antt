@@ -1,6 +1,5 @@
-use Rattle.std.proofs.Common.{◌≡◌, rules, sym, subst}
+use Rattle.std.proofs.Common.{◌≡◌, rules}
 use Rattle.std.specs.Prelude.{IsTrue}
-use Rattle.outer_world.specs.Files.{is_in}
 use Rattle.folder_shelf.specs.Names.{is_part, joined}
 use Rattle.folder_shelf.proofs.InsideFacts.{is_in-joined}
 use Rattle.folder_shelf.proofs.names.whole_name.Goals as goal
