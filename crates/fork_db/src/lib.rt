@@ -4,13 +4,7 @@
 mod batches;
 mod chunks;
 mod claims;
-#[cfg(test)]
-mod client;
 mod db;
-#[cfg(test)]
-mod fixtures;
-#[cfg(test)]
-mod generated_tests;
 mod heads;
 mod held;
 mod openings;
