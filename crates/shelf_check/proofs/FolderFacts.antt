@@ -9,7 +9,8 @@ use Rattle.one_block.specs.Forms.{form_of}
 use Rattle.one_block.specs.declared.singles.SingleRead.{SingleRead}
 use Rattle.one_block.specs.Singles.{IsSingleRead}
 use Rattle.shelf_check.specs.Singles.{AnswersBy, SingleAnswers}
-use Rattle.shelf_check.specs.Folders.{HasText, Single, IsSingle, names_of, IsBadFile, IsFirstOf, IsFileRead, IsRefusedFile, AreRead}
+use Rattle.file_reader.specs.Reading.{HasText}
+use Rattle.shelf_check.specs.Folders.{Single, IsSingle, names_of, IsBadFile, IsFirstOf, IsFileRead, IsRefusedFile, AreRead}
 use Rattle.shelf_check.proofs.ListFacts.{taken_more, cut_at}
 
 -- a file whose name has a form, and which was read, is one of the folder

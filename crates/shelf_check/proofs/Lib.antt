@@ -1,6 +1,5 @@
 mod ListFacts
-mod ContainerFacts
-mod LinkFacts
+mod BundleFacts
 mod RefusalFacts
 mod FolderFacts
 mod MergedFacts

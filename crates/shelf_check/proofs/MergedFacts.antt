@@ -10,7 +10,7 @@ use Rattle.one_block.specs.declared.file_faults.FileFault.TheVariants.{Bad}
 use Rattle.shelf_check.specs.declared.merged.MergedRead.{MergedRead}
 use Rattle.shelf_check.specs.declared.bundles.BundleRead.{BundleRead}
 use Rattle.shelf_check.specs.Bundles.{tip_after, IsBundleRead}
-use Rattle.shelf_check.specs.Folders.{HasText}
+use Rattle.file_reader.specs.Reading.{HasText}
 use Rattle.shelf_check.specs.Merged.{Entry, AreBased, IsOtherName, Bundle, IsBundleOn, kept_of, block_count, entries_of, IsBadBundle, IsFirstOf, IsNextRead, IsRefusedBundle, AreRead}
 use Rattle.shelf_check.proofs.ListFacts.{taken_more, cut_at}
 

@@ -10,7 +10,9 @@ use Rattle.one_block.specs.declared.file_faults.FileFault.{FileFault}
 use Rattle.one_block.specs.declared.file_faults.FileFault.TheVariants.{Bad, OtherType, Mem}
 use Rattle.shelf_check.specs.declared.faults.LoadFault.{LoadFault}
 use Rattle.shelf_check.specs.declared.faults.LoadFault.TheVariants.{Store, KindClash, HistoryFull}
-use Rattle.shelf_check.specs.Refusals.{named_fault, IsNamedAs, StoreRefused, Refused}
+use Rattle.shelf_check.specs.declared.faults.ReadFault.{ReadFault}
+use Rattle.shelf_check.specs.declared.faults.ReadFault.TheVariants.{OnShelf, InFile}
+use Rattle.shelf_check.specs.Refusals.{named_fault, IsNamedAs, StoreRefused, Refused, ReadRefused, IsReadAs}
 
 module _ (F G : List ℕ → FileFault → Type 0) (before now before' now' : ℕ) (earlier : before' ≤ before) (later : now ≤ now') (wider : (name : List ℕ) (f : FileFault) → F name f → G name f) where
   store_on : (fault : StoreFault) → StoreRefused F before now fault → StoreRefused G before' now' fault
@@ -41,3 +43,8 @@ at_name F name before now Mem r = tt
 pub refused_at : (F : List ℕ → FileFault → Type 0) (name : List ℕ) (before now : ℕ) (f : FileFault) (fault : LoadFault) → IsNamedAs name f fault → F name f → Refused F before now fault
 refused_at F name before now f fault (inl is) r = subst (Refused F before now) (sym is) (at_name F name before now f r)
 refused_at F name before now f fault (inr is) r = subst (Refused F before now) (sym is) tt
+
+-- a refusal of one file, with its name
+pub refused_read : (F : List ℕ → FileFault → Type 0) (G : FileFault → Type 0) (name : List ℕ) (before now : ℕ) (e : ReadFault) (fault : LoadFault) → IsReadAs name e fault → ReadRefused G before now e → ((f : FileFault) → G f → F name f) → Refused F before now fault
+refused_read F G name before now (OnShelf f) fault is r on = subst (Refused F before now) (sym is) (refused_by F before now f r)
+refused_read F G name before now (InFile f) fault is r on = refused_at F name before now f fault is (on f r)

@@ -27,7 +27,8 @@ use Rattle.one_block.specs.Heads.{AreRecords}
 use Rattle.shelf_check.specs.Bundles.{tip_after, BundleRefused}
 use Rattle.one_block.specs.Singles.{FormedRefused}
 use Rattle.shelf_check.specs.Singles.{AnswersBy}
-use Rattle.shelf_check.specs.Folders.{HasText, Single, IsSingle, kept_after, AreSingles, IsFolder, IsBadFile}
+use Rattle.file_reader.specs.Reading.{HasText}
+use Rattle.shelf_check.specs.Folders.{Single, IsSingle, kept_after, AreSingles, IsFolder, IsBadFile}
 use Rattle.shelf_check.specs.Folders.{IsFirstIn as IsFirstInFolder}
 use Rattle.shelf_check.specs.Merged.{Entry, entry_order, AreOrdered, Bundle, IsBundleOn, kept_of, tip_of, block_count, AreBundles, entries_of, IsMerged, IsOtherName, IsFirstBased, IsBadBundle}
 use Rattle.shelf_check.specs.Merged.{IsFirstIn as IsFirstInMerged}

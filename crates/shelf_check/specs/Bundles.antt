@@ -1,5 +1,5 @@
 -- Files of merged blocks: each block the child of the one before it, over all of them.
-use Rattle.std.specs.Prelude.{ℕ, ◌≡◌, ◌+◌, ◌-◌, ◌%◌, ◌==◌, ◌&&◌, ◌||◌, ◌⊎◌, nat_lt, Bool, true, IsTrue, IsFalse, List, [], ◌∷◌, ◌++◌, length, Option, None, Some, ⊤, Result, Ok, Err}
+use Rattle.std.specs.Prelude.{ℕ, ◌≡◌, ◌+◌, ◌-◌, ◌%◌, ◌==◌, ◌&&◌, ◌||◌, ◌⊎◌, nat_lt, Bool, true, IsTrue, IsFalse, List, [], ◌∷◌, ◌++◌, length, Option, None, Some, ⊤}
 use Rattle.std.specs.Option.{is_some}
 use Rattle.block_record.specs.Ids.{same_id}
 use Rattle.block_record.specs.declared.blocks.Block.{Block}
@@ -98,8 +98,3 @@ pub record IsBundleRead (base : ℕ) (text : List ℕ) (kept : Option (List ℕ)
   pub bundle : IsBundle base text kept before x.block_type blocks
   pub tip : Some x.tip ≡ tip_after before blocks
   pub count : x.blocks ≡ length blocks
-
--- what is answered to the text of the file of this base, after files of this type and after this block
-abbrev pub BundleAnswers : ℕ → List ℕ → Option (List ℕ) → Option BlockRef → Result BundleRead FileFault → Type 0
-BundleAnswers base text kept before (Ok x) = IsBundleRead base text kept before x
-BundleAnswers base text kept before (Err fault) = BundleRefused base text kept before fault

@@ -1,8 +1,8 @@
 -- The folders whose files hold one block each.
 use Rattle.std.specs.Prelude.{ℕ, ◌≡◌, List, [], ◌∷◌, ◌++◌, length, map, reverse, codes, Option, None, Some, ⊤, Result, Ok, Err}
-use Rattle.std.specs.Option.{unwrap_or}
 use Rattle.block_record.specs.declared.blocks.Block.{Block}
-use Rattle.outer_world.specs.Files.{Files, file_at}
+use Rattle.outer_world.specs.Files.{Files}
+use Rattle.file_reader.specs.Reading.{HasText}
 use Rattle.outer_world.specs.Shelves.{AreNamesOf}
 use Rattle.one_block.specs.declared.file_faults.FileFault.{FileFault}
 use Rattle.shelf_check.specs.declared.faults.LoadFault.{LoadFault}
@@ -14,11 +14,6 @@ use Rattle.one_block.specs.Forms.{form_of}
 use Rattle.shelf_check.specs.Refusals.{Refused}
 use Rattle.one_block.specs.Singles.{IsSingleOf}
 use Rattle.shelf_check.specs.Singles.{SingleAnswers}
-
--- the bytes of a file, where the files are told; one that is not there has none
-abbrev pub HasText : Option Files → List ℕ → List ℕ → Type 0
-HasText None name text = ⊤
-HasText (Some files) name text = unwrap_or (file_at name files) [] ≡ text
 
 -- the name of a folder
 abbrev pub folder_text : Folder → List ℕ

@@ -14,9 +14,11 @@ use Rattle.one_block.specs.declared.file_faults.FileFault.{FileFault}
 use Rattle.one_block.specs.declared.file_faults.FileFault.TheVariants.{Bad}
 use Rattle.shelf_check.specs.declared.faults.LoadFault.{LoadFault}
 use Rattle.shelf_check.specs.declared.merged.MergedRead.{MergedRead}
-use Rattle.shelf_check.specs.Bundles.{IsBundle, BundleRefused, tip_after}
-use Rattle.shelf_check.specs.Folders.{HasText}
-use Rattle.shelf_check.specs.Refusals.{Refused}
+use Rattle.shelf_check.specs.Bundles.{IsBundle, BundleRefused, IsBundleRead, tip_after}
+use Rattle.shelf_check.specs.declared.bundles.BundleRead.{BundleRead}
+use Rattle.shelf_check.specs.declared.faults.ReadFault.{ReadFault}
+use Rattle.file_reader.specs.Reading.{HasText}
+use Rattle.shelf_check.specs.Refusals.{Refused, ReadRefused}
 
 -- the base and the whole name of a file
 abbrev pub Entry : Type 0
@@ -96,6 +98,17 @@ pub record IsBadBundle (files : Option Files) (kept : Option (List ℕ)) (before
   pub text : List ℕ
   pub there : HasText files name text
   pub refused : BundleRefused base text kept before fault
+
+-- what was read of the file of this base and name
+pub record IsBundleReadOn (files : Option Files) (base : ℕ) (name : List ℕ) (kept : Option (List ℕ)) (before : Option BlockRef) (x : BundleRead) : Type 0 where
+  pub text : List ℕ
+  pub there : HasText files name text
+  pub read : IsBundleRead base text kept before x
+
+-- what is answered to the file of this base and name, after files of this type and after this block, where the count of faults was one and is now another
+abbrev pub BundleAnswers : Option Files → ℕ → List ℕ → Option (List ℕ) → Option BlockRef → ℕ → ℕ → Result BundleRead ReadFault → Type 0
+BundleAnswers files base name kept before then now (Ok x) = IsBundleReadOn files base name kept before x
+BundleAnswers files base name kept before then now (Err fault) = ReadRefused (IsBadBundle files kept before base name) then now fault
 
 -- the first of these files obey the rule, and the next one does not
 pub record IsFirstOf (files : Option Files) (entries : List Entry) (name : List ℕ) (fault : FileFault) : Type 0 where

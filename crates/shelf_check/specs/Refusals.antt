@@ -1,6 +1,10 @@
 -- Why a call that reads the whole shelf is refused.
 use Rattle.std.specs.Prelude.{ℕ, ◌≡◌, ◌⊎◌, List, ⊤}
 use Rattle.outer_world.specs.Causes.{Rose}
+use Rattle.outer_world.specs.Shelves.{RefusesBy}
+use Rattle.one_block.specs.StoreFaults.{fault_of}
+use Rattle.shelf_check.specs.declared.faults.ReadFault.{ReadFault}
+use Rattle.shelf_check.specs.declared.faults.ReadFault.TheVariants.{OnShelf, InFile}
 use Rattle.one_block.specs.declared.faults.StoreFault.{StoreFault}
 use Rattle.one_block.specs.declared.faults.StoreFault.TheVariants as store
 use Rattle.one_block.specs.declared.file_faults.FileFault.{FileFault}
@@ -32,3 +36,13 @@ abbrev pub Refused : (List ℕ → FileFault → Type 0) → ℕ → ℕ → Loa
 Refused IsFault before now (Store fault) = StoreRefused IsFault before now fault
 Refused IsFault before now (KindClash held offered) = (name : List ℕ) × IsFault name (OtherType held offered)
 Refused IsFault before now (HistoryFull len need) = ⊥
+
+-- what a refusal of one file rests on: a call of the shelf that was refused, or the file's fault
+abbrev pub ReadRefused : (FileFault → Type 0) → ℕ → ℕ → ReadFault → Type 0
+ReadRefused IsFault before now (OnShelf fail) = RefusesBy fail before now
+ReadRefused IsFault before now (InFile fault) = IsFault fault
+
+-- the refusal of a shelf whose file of this name was refused so
+abbrev pub IsReadAs : List ℕ → ReadFault → LoadFault → Type 0
+IsReadAs name (OnShelf fail) told = told ≡ Store (fault_of fail)
+IsReadAs name (InFile fault) told = IsNamedAs name fault told

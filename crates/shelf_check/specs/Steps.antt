@@ -1,12 +1,16 @@
 -- The steps by which a file of merged blocks is read.
-use Rattle.std.specs.Prelude.{ℕ, ◌≡◌, ◌⊎◌, Bool, true, false, IsTrue, List, Option, None, Some, ⊤, Result, Ok, Err}
+use Rattle.std.specs.Prelude.{ℕ, ◌≡◌, ◌+◌, ◌<◌, ◌⊎◌, IsTrue, List, [], ◌∷◌, Option, None, Some, ⊤, Result, Ok, Err}
+use Rattle.std.specs.Option.{is_some, option_map, unwrap_or}
 use Rattle.block_record.specs.declared.blocks.Block.{Block}
 use Rattle.block_record.specs.declared.blocks.BlockRef.{BlockRef}
+use Rattle.dbin_file.specs.declared.faults.DbinFault.{DbinFault}
+use Rattle.dbin_file.specs.Contents.{told}
+use Rattle.dbin_file.specs.Reader.{end_fault}
+use Rattle.file_reader.specs.Reading.{FileState, place_of}
 use Rattle.one_block.specs.declared.file_faults.FileFault.{FileFault}
 use Rattle.one_block.specs.declared.file_faults.FileFault.TheVariants.{Bad, OtherType, Mem}
-use Rattle.one_block.specs.Containers.{IsRecordOf, IsNoRecord}
-use Rattle.one_block.specs.Heads.{AreRecords}
-use Rattle.shelf_check.specs.Bundles.{is_next, block_ref, tip_after, AreNext, IsNotNext, IsBadMessage}
+use Rattle.one_block.specs.Containers.{fault_place, IsRecordOf, IsNoRecord}
+use Rattle.shelf_check.specs.Bundles.{is_next, block_ref, IsNotNext}
 
 -- a message is the record of a block that may come next
 pub record IsNextRecord (base : ℕ) (before : Option BlockRef) (message : List ℕ) (tip : BlockRef) : Type 0 where
@@ -25,36 +29,37 @@ abbrev pub NextAnswers : ℕ → ℕ → Option BlockRef → List ℕ → Result
 NextAnswers base place before message (Ok tip) = IsNextRecord base before message tip
 NextAnswers base place before message (Err fault) = NextRefused base place before message fault
 
--- messages are records of blocks that may come next, and this is the last block then
-pub record AreLinked (base : ℕ) (before : Option BlockRef) (messages : List (List ℕ)) (tip : Option BlockRef) : Type 0 where
-  pub blocks : List Block
-  pub records : AreRecords messages blocks
-  pub next : AreNext base before blocks
-  pub tip_is : tip ≡ tip_after before blocks
+-- the place of the bytes of the message that stands next
+abbrev pub next_record_place : FileState → ℕ
+next_record_place r = told (place_of r + 4)
 
-abbrev pub LinkRefused : ℕ → ℕ → List (List ℕ) → Option BlockRef → FileFault → Type 0
-LinkRefused base first messages before (Bad at) = IsBadMessage base first messages before at
-LinkRefused base first messages before (OtherType held offered) = ⊥
-LinkRefused base first messages before Mem = ⊤
+-- the first of these messages, if there is one, is answered so
+abbrev pub FirstAnswers : ℕ → ℕ → Option BlockRef → List (List ℕ) → Result (Option BlockRef) FileFault → Type 0
+FirstAnswers base place before [] result = result ≡ Ok None
+FirstAnswers base place before (message ∷ more) (Ok None) = ⊥
+FirstAnswers base place before (message ∷ more) (Ok (Some tip)) = IsNextRecord base before message tip
+FirstAnswers base place before (message ∷ more) (Err fault) = NextRefused base place before message fault
 
--- what is answered of messages of which the first stands at this place
-abbrev pub LinkAnswers : ℕ → ℕ → List (List ℕ) → Option BlockRef → Result (Option BlockRef) FileFault → Type 0
-LinkAnswers base first messages before (Ok tip) = AreLinked base before messages tip
-LinkAnswers base first messages before (Err fault) = LinkRefused base first messages before fault
+-- where a file of which no message is left ends too early: at its container's fault, or else at its end
+abbrev pub end_of : FileState → ℕ
+end_of r = unwrap_or (option_map fault_place (end_fault r.reader)) (told r.at)
 
--- the messages are linked, and there is no last block, or the file does not end after them
-pub record IsBadAfter (base : ℕ) (messages : List (List ℕ)) (before : Option BlockRef) (ends : Bool) (end at : ℕ) : Type 0 where
-  pub tip : Option BlockRef
-  pub linked : AreLinked base before messages tip
-  pub not_ended : (tip ≡ None) ⊎ (ends ≡ false)
-  pub at_is : at ≡ end
+-- the file is not whole: it has no block, or a fault
+abbrev pub IsNotWhole : Option DbinFault → Option BlockRef → ℕ → Type 0
+IsNotWhole fault last count = (last ≡ None) ⊎ ((count ≡ 0) ⊎ IsTrue (is_some fault))
 
-abbrev pub WholeRefused : ℕ → ℕ → List (List ℕ) → Option BlockRef → Bool → ℕ → FileFault → Type 0
-WholeRefused base first messages before ends end (Bad at) = IsBadMessage base first messages before at ⊎ IsBadAfter base messages before ends end at
-WholeRefused base first messages before ends end (OtherType held offered) = ⊥
-WholeRefused base first messages before ends end Mem = ⊤
+abbrev pub LastRefused : FileState → Option BlockRef → ℕ → FileFault → Type 0
+LastRefused r last count (Bad at) = (at ≡ end_of r) × IsNotWhole (end_fault r.reader) last count
+LastRefused r last count (OtherType held offered) = ⊥
+LastRefused r last count Mem = ⊥
 
--- the same where the file has to end after the messages
-abbrev pub WholeAnswers : ℕ → ℕ → List (List ℕ) → Option BlockRef → Bool → ℕ → Result BlockRef FileFault → Type 0
-WholeAnswers base first messages before ends end (Ok tip) = AreLinked base before messages (Some tip) × (ends ≡ true)
-WholeAnswers base first messages before ends end (Err fault) = WholeRefused base first messages before ends end fault
+-- the file is whole, and this is its last block
+pub record IsLastOf (r : FileState) (last : Option BlockRef) (count : ℕ) (tip : BlockRef) : Type 0 where
+  pub last_is : last ≡ Some tip
+  pub some : 0 < count
+  pub fine : end_fault r.reader ≡ None
+
+-- what is answered at the end of a file, after so many blocks of which this is the last
+abbrev pub LastAnswers : FileState → Option BlockRef → ℕ → Result BlockRef FileFault → Type 0
+LastAnswers r last count (Ok tip) = IsLastOf r last count tip
+LastAnswers r last count (Err fault) = LastRefused r last count fault

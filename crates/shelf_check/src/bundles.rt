@@ -1,13 +1,19 @@
 //! A file of merged blocks.
 
-ghost use Rattle.std.specs.Prelude.{◌≡◌, ◌&&◌, nat_lt, not, length};
-ghost use Rattle.std.specs.Option.{is_some};
-ghost use Rattle.shelf_check.specs.Bundles.{BundleAnswers, block_ref, hundred as hundred_of, is_child as is_child_of, is_next as may_be_next};
-ghost use Rattle.shelf_check.specs.Steps.{LinkAnswers, NextAnswers, WholeAnswers};
+ghost use Rattle.std.specs.Prelude.{◌≡◌, ◌≤◌, IfOk};
+ghost use Rattle.std.specs.Option.{option_map};
+ghost use Rattle.file_reader.specs.Reading.{HasRead};
+ghost use Rattle.one_block.specs.SingleSteps.{HeadAnswers};
+ghost use Rattle.shelf_check.specs.Bundles.{block_ref, hundred as hundred_of, is_child as is_child_of, is_next as may_be_next};
+ghost use Rattle.shelf_check.specs.Merged.{BundleAnswers};
+ghost use Rattle.shelf_check.specs.Steps.{FirstAnswers, LastAnswers, NextAnswers, end_of as end_of_file, next_record_place};
 
-use block_record::{Block, BlockRef, Bytes, TypeName};
-use one_block::{FileContents, FileFault, decode_at, end_place, head_type, read_contents};
-use std::alloc::Global;
+use crate::faults::ReadFault;
+use block_record::{Block, BlockRef, TypeName};
+use file_reader::FileReader;
+use one_block::{FileFault, copy_type, decode_at, end_place, head_type};
+use outer_world::{FileName, Shelf};
+use std::alloc::{AllocError, Global};
 
 /// What a file of merged blocks holds.
 #[derive(Drop)]
@@ -20,87 +26,106 @@ pub struct BundleRead {
     pub blocks: u64,
 }
 
-/// What the file of merged blocks of this base holds, or where it is bad, by its text, the type of
-/// the files before it, and the last block before it.
-pub fn check_bundle(
+/// What the file of merged blocks of this base and name holds, or where it is bad, after files of
+/// this type and after this block. Its blocks are read one after another, and none is kept but the
+/// last.
+pub fn check_bundle<S: Shelf>(
     alloc: Global,
+    shelf: &mut S,
     base: u64,
-    text: &[u8],
+    name: &FileName,
     kept: &Option<TypeName>,
     tip: Option<BlockRef>,
-) -> Result<BundleRead, FileFault>
-    ensures { BundleAnswers base text.now kept.now tip result }
+) -> Result<BundleRead, ReadFault>
+    ensures answer { BundleAnswers (S.files shelf.old) base name.now kept.now tip
+        (S.shelf_faults shelf.old) (S.shelf_faults shelf.new) result }
+    ensures files { S.files shelf.new ≡ S.files shelf.old }
+    ensures staged { S.staged shelf.new ≡ S.staged shelf.old }
+    ensures later { S.shelf_faults shelf.old ≤ S.shelf_faults shelf.new }
 {
-    let file = read_contents(alloc, text)?;
-    let end = end_place(file.fault, text.len());
-    let ends = is_whole(&file);
-    let FileContents {
-        block_type,
-        messages,
-        ..
-    } = file;
-    let block_type = head_type(block_type, kept, end)?;
-    let first = 11 + block_type.as_bytes().len() as u64;
-    let tip = link_all(alloc, base, first, messages.as_slice(), tip, ends, end)?;
+    let name = FileName::new(alloc, name.as_bytes())?;
+    let mut file = FileReader::open(alloc, name);
+    file.fill(shelf)?;
+    let block_type = read_type(&file, kept)?;
+    let mut last = tip;
+    let mut blocks = 0;
+    while let Some(next) = first_block(alloc, base, &file, &last)? {
+        last = Some(next);
+        blocks += 1;
+        file.advance();
+        file.fill(shelf)?;
+    }
+    let tip = last_block(&file, last, blocks)?;
     Ok(BundleRead {
         block_type,
         tip,
-        blocks: messages.len() as u64,
+        blocks,
     })
 }
 
-/// Whether a container has a message and no fault.
-fn is_whole(file: &FileContents) -> bool
-    ensures { result ≡ (nat_lt 0 (length file.now.messages.items) && not (is_some file.now.fault)) }
+/// The type of a file, where it is that of the files before.
+fn read_type(file: &FileReader, kept: &Option<TypeName>) -> Result<TypeName, FileFault>
+    ensures { HeadAnswers file.now.reader.block_type kept.now (end_of_file file.now) result }
 {
-    !file.messages.is_empty() && file.fault.is_none()
+    let found = type_of(file)?;
+    head_type(found, kept, end_of(file))
 }
 
-/// The last of the blocks that some messages hold, of which the first stands at this place. Where
-/// there is none, or the file does not end after them, it is bad at `end`.
-fn link_all(
+/// A copy of the type that was read of a file.
+fn type_of(file: &FileReader) -> Result<Option<TypeName>, AllocError>
+    ensures { IfOk result (λ found. found ≡ file.now.reader.block_type) }
+{
+    match file.block_type() {
+        Some(name) => {
+            let name = copy_type(name)?;
+            Ok(Some(name))
+        }
+        None => Ok(None),
+    }
+}
+
+/// Where a file of which no message is left ends too early.
+fn end_of(file: &FileReader) -> u64
+    ensures { result ≡ end_of_file file.now }
+{
+    end_place(file.fault(), file.bytes_read() as usize)
+}
+
+/// The block of the message that stands next in a file, if one does. It must be one that may come
+/// next.
+fn first_block(
     alloc: Global,
     base: u64,
-    first: u64,
-    messages: &[Bytes],
-    tip: Option<BlockRef>,
-    ends: bool,
-    end: u64,
-) -> Result<BlockRef, FileFault>
-    ensures { WholeAnswers base first messages.now tip ends end result }
+    file: &FileReader,
+    tip: &Option<BlockRef>,
+) -> Result<Option<BlockRef>, FileFault>
+    ensures { FirstAnswers base (next_record_place file.now) tip.now file.now.left result }
 {
-    let last = link_blocks(alloc, base, first, messages, tip)?;
+    match file.message() {
+        Some(message) => {
+            let at = file.place().saturating_add(4);
+            let next = next_block(alloc, base, at, tip, message.as_bytes())?;
+            Ok(Some(next))
+        }
+        None => Ok(None),
+    }
+}
+
+/// The last of so many blocks of a file of which no message is left. Where there is none, or the file
+/// is bad, it ends too early.
+fn last_block(file: &FileReader, last: Option<BlockRef>, blocks: u64) -> Result<BlockRef, FileFault>
+    ensures { LastAnswers file.now last blocks result }
+{
     match last {
         Some(last) => {
-            if ends {
+            if blocks > 0 && file.fault().is_none() {
                 Ok(last)
             } else {
-                Err(FileFault::Bad { at: end })
+                Err(FileFault::Bad { at: end_of(file) })
             }
         }
-        None => Err(FileFault::Bad { at: end }),
+        None => Err(FileFault::Bad { at: end_of(file) }),
     }
-}
-
-/// The last block after some messages, of which the first stands at this place. Each must be the
-/// record of a block that may come next.
-fn link_blocks(
-    alloc: Global,
-    base: u64,
-    first: u64,
-    messages: &[Bytes],
-    tip: Option<BlockRef>,
-) -> Result<Option<BlockRef>, FileFault>
-    ensures { LinkAnswers base first messages.now tip result }
-{
-    let mut last = tip;
-    let mut at = first;
-    for message in messages {
-        let next = next_block(alloc, base, at, &last, message.as_bytes())?;
-        last = Some(next);
-        at = at.saturating_add(message.as_bytes().len() as u64 + 4);
-    }
-    Ok(last)
 }
 
 /// The block of a record at this place, which must be one that may come next.

@@ -1,7 +1,7 @@
 //! Why a shelf, or one of its files, was refused.
 
 ghost use Rattle.std.specs.Prelude.{◌≡◌, ◌⊎◌};
-ghost use Rattle.shelf_check.specs.Refusals.{IsNamedAs};
+ghost use Rattle.shelf_check.specs.Refusals.{IsNamedAs, IsReadAs};
 
 use block_record::TypeName;
 use one_block::{FileFault, StoreFault};
@@ -44,6 +44,59 @@ impl From<ShelfFail> for LoadFault {
             ShelfFail::Failed => LoadFault::Store(StoreFault::ShelfFault),
             ShelfFail::Mem => LoadFault::Store(StoreFault::Mem),
         }
+    }
+}
+
+/// Why a file was not read to its end.
+#[derive(PartialEq, Eq, Debug, Drop)]
+pub enum ReadFault {
+    /// A call of the shelf was refused, or there was no memory.
+    OnShelf(ShelfFail),
+    /// The file was refused.
+    InFile(FileFault),
+}
+
+impl From<AllocError> for ReadFault {
+    ghost use Rattle.std.specs.Prelude.{◌≡◌};
+    ghost use Rattle.outer_world.specs.declared.shelves.ShelfFail.TheVariants.{Mem};
+    ghost use Rattle.shelf_check.specs.declared.faults.ReadFault.TheVariants.{OnShelf};
+
+    ghost from_gives = { λ _ fault. fault ≡ OnShelf Mem };
+
+    fn from(_error: AllocError) -> ReadFault {
+        ReadFault::OnShelf(ShelfFail::Mem)
+    }
+}
+
+impl From<ShelfFail> for ReadFault {
+    ghost use Rattle.std.specs.Prelude.{◌≡◌};
+    ghost use Rattle.shelf_check.specs.declared.faults.ReadFault.TheVariants.{OnShelf};
+
+    ghost from_gives = { λ fail fault. fault ≡ OnShelf fail };
+
+    fn from(fail: ShelfFail) -> ReadFault {
+        ReadFault::OnShelf(fail)
+    }
+}
+
+impl From<FileFault> for ReadFault {
+    ghost use Rattle.std.specs.Prelude.{◌≡◌};
+    ghost use Rattle.shelf_check.specs.declared.faults.ReadFault.TheVariants.{InFile};
+
+    ghost from_gives = { λ refused fault. fault ≡ InFile refused };
+
+    fn from(fault: FileFault) -> ReadFault {
+        ReadFault::InFile(fault)
+    }
+}
+
+/// The refusal of a shelf whose file of this name was refused so.
+pub fn with_file(alloc: Global, name: &FileName, fault: ReadFault) -> LoadFault
+    ensures { IsReadAs name.now fault result }
+{
+    match fault {
+        ReadFault::OnShelf(fail) => LoadFault::from(fail),
+        ReadFault::InFile(fault) => with_name(alloc, name, fault),
     }
 }
 

@@ -2,7 +2,8 @@
 
 ghost use Rattle.std.specs.Prelude.{◌≡◌, ◌≤◌, IfOk};
 ghost use Rattle.outer_world.specs.Shelves.{HasShelfCause};
-ghost use Rattle.shelf_check.specs.Folders.{HasText, FileAnswers, NamesAnswer, FolderAnswers, folder_text as text_of_folder};
+ghost use Rattle.file_reader.specs.Reading.{HasText};
+ghost use Rattle.shelf_check.specs.Folders.{FileAnswers, NamesAnswer, FolderAnswers, folder_text as text_of_folder};
 
 use crate::faults::{LoadFault, with_name};
 use crate::singles::check_single;
@@ -96,11 +97,7 @@ fn check_file<S: Shelf>(
 }
 
 /// The bytes of a file. One that is not there has none.
-pub fn read_text<S: Shelf>(
-    alloc: Global,
-    shelf: &mut S,
-    name: &FileName,
-) -> Result<Vec<u8>, ShelfFail>
+fn read_text<S: Shelf>(alloc: Global, shelf: &mut S, name: &FileName) -> Result<Vec<u8>, ShelfFail>
     ensures text { IfOk result (λ text. HasText (S.files shelf.old) name.now text.items) }
     ensures files { S.files shelf.new ≡ S.files shelf.old }
     ensures staged { S.staged shelf.new ≡ S.staged shelf.old }

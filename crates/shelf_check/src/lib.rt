@@ -11,7 +11,7 @@ mod singles;
 
 pub use bundles::{BundleRead, check_bundle};
 pub use check::{Report, check_shelf};
-pub use faults::LoadFault;
+pub use faults::{LoadFault, ReadFault};
 pub use laws::good_files_are_taken;
 pub use singles::check_single;
 

@@ -4,8 +4,7 @@ ghost use Rattle.std.specs.Prelude.{◌≡◌, ◌≤◌, ◌++◌, ◌∷◌, [
 ghost use Rattle.shelf_check.specs.Merged.{EntriesAnswer, NextAnswers, ReadAnswers, FolderAnswers};
 
 use crate::bundles::check_bundle;
-use crate::faults::{LoadFault, bad_file, with_name};
-use crate::folders::read_text;
+use crate::faults::{LoadFault, bad_file, with_file};
 use block_record::{BlockRef, TypeName};
 use one_block::merged_base_in;
 use outer_world::{FileName, Shelf};
@@ -103,14 +102,13 @@ fn check_next<S: Shelf>(
     ensures staged { S.staged shelf.new ≡ S.staged shelf.old }
     ensures later { S.shelf_faults shelf.old ≤ S.shelf_faults shelf.new }
 {
-    let text = read_text(alloc, shelf, name)?;
     let MergedRead { kept, tip, blocks } = read;
-    match check_bundle(alloc, base, text.as_slice(), &kept, tip) {
+    match check_bundle(alloc, shelf, base, name, &kept, tip) {
         Ok(next) => Ok(MergedRead {
             kept: Some(next.block_type),
             tip: Some(next.tip),
             blocks: blocks.saturating_add(next.blocks),
         }),
-        Err(fault) => Err(with_name(alloc, name, fault)),
+        Err(fault) => Err(with_file(alloc, name, fault)),
     }
 }

@@ -1,7 +1,15 @@
 use Rattle.std.proofs.Common.{refl}
+use Rattle.shelf_check.specs.Merged.{IsBadBundle, IsRefusedBundle}
 use Rattle.shelf_check.proofs.MergedFacts.{bundle_read}
+use Rattle.shelf_check.proofs.RefusalFacts.{refused_read}
 use Rattle.shelf_check.proofs.merged.check_next.Goals as goal
 
 pub returns-in-Ok-clause-answer : goal.returns-in-Ok-clause-answer
 returns-in-Ok-clause-answer g c =
-    bundle_read (g.S.Shelf.files c.args.shelf.now) c.args.base c.args.name.now c.in_ok-text.text.items c.args.read _ c.in-Ok.next c.in_ok-text.ensures.text (rw c.as_slice.ensures.value at c.in-Ok.ensures) refl refl c.saturating_add.ensures
+    let on = c.in-Ok.ensures.answer in
+    bundle_read (g.S.Shelf.files c.args.shelf.now) c.args.base c.args.name.now on.text c.args.read _ c.in-Ok.next on.there on.read refl refl c.saturating_add.ensures
+
+pub returns-in-Err-clause-answer : goal.returns-in-Err-clause-answer
+returns-in-Err-clause-answer g c =
+    refused_read (λ told_name f. IsRefusedBundle (g.S.Shelf.files c.args.shelf.now) c.args.base c.args.name.now c.args.read told_name f) (IsBadBundle (g.S.Shelf.files c.args.shelf.now) c.args.read.kept c.args.read.tip c.args.base c.args.name.now)
+    c.args.name.now (g.S.Shelf.shelf_faults c.args.shelf.now) (g.S.Shelf.shelf_faults c.check_bundle.new.shelf) c.in-Err.fault c.with_file.result c.with_file.ensures c.in-Err.ensures.answer (λ f bad. record { told_is = refl; bad = bad })
