@@ -1,5 +1,5 @@
 -- A file of merged blocks, block by block.
-use Rattle.std.proofs.Common.{arith, ◌≡◌, ◌<◌, ◌+◌, ◌-◌, ◌^◌, ◌==◌, ◌||◌, ◌⊎◌, inl, inr, ℕ, Bool, true, false, nat_lt, IsTrue, List, [], ◌∷◌, ◌++◌, length, min, Option, Some, None, Result, Ok, Err, refl, sym, ap, subst, ◌∙◌, length-append}
+use Rattle.std.proofs.Common.{arith, ◌≡◌, ◌<◌, ◌+◌, ◌-◌, ◌^◌, ◌==◌, ◌||◌, ◌⊎◌, inl, inr, ℕ, Bool, true, false, IsTrue, List, [], ◌∷◌, ◌++◌, length, min, Option, Some, None, Result, Ok, Err, refl, sym, ap, subst, ◌∙◌, length-append}
 use Rattle.std.specs.Option.{is_some, option_map, unwrap_or}
 use Rattle.std.specs.List.{flat_map}
 use Rattle.std.specs.Int.{w32, to_be_bytes}
@@ -20,8 +20,7 @@ use Rattle.one_block.specs.declared.file_faults.FileFault.TheVariants.{Bad, Othe
 use Rattle.one_block.specs.Heads.{AreRecords, IsKept}
 use Rattle.one_block.specs.SingleSteps.{HeadRefused}
 use Rattle.one_block.proofs.public.RecordFacts.{records_more, length_records}
-use Rattle.shelf_check.specs.declared.bundles.BundleRead.{BundleRead}
-use Rattle.shelf_check.specs.Bundles.{is_next, tip_after, AreNext, place_after, IsNotNext, IsBadMessage, IsBadEnd}
+use Rattle.shelf_check.specs.Bundles.{is_next, tip_after, AreNext, place_after, IsNotNext, IsBadMessage}
 use Rattle.shelf_check.specs.Merged.{IsBadBundle, IsBundleReadOn}
 use Rattle.shelf_check.specs.Steps.{IsNextRecord, NextRefused, FirstAnswers, next_record_place, end_of, IsNotWhole, LastRefused, IsLastOf}
 

@@ -1,5 +1,5 @@
 -- A good file is not refused.
-use Rattle.std.proofs.Common.{arith, ◌≡◌, ◌<◌, ◌==◌, ◌||◌, ◌⊎◌, ℕ, Bool, true, false, IsTrue, List, [], ◌∷◌, ◌++◌, length, map, reverse, Option, Some, None, inl, inr, refl, sym, ap, subst, ◌∙◌}
+use Rattle.std.proofs.Common.{arith, ◌≡◌, ◌<◌, ◌==◌, ◌||◌, ◌⊎◌, ℕ, Bool, true, false, IsTrue, List, [], ◌∷◌, ◌++◌, length, reverse, Option, Some, None, inl, inr, refl, sym, ap, subst, ◌∙◌}
 use Rattle.std.specs.Option.{is_some}
 use Rattle.std.proofs.lemmas.Bool.{ltb-true}
 use Rattle.std.proofs.lemmas.Bool.Decides.{Decides-eqb}
@@ -8,7 +8,7 @@ use Rattle.block_record.specs.declared.blocks.BlockRef.{BlockRef}
 use Rattle.block_record.specs.Slips.{slip}
 use Rattle.dbin_file.specs.declared.faults.DbinFault.{DbinFault}
 use Rattle.dbin_file.specs.Contents.{contents}
-use Rattle.one_block.specs.Containers.{record_place, IsRecordOf, IsNoRecord}
+use Rattle.one_block.specs.Containers.{record_place, IsNoRecord}
 use Rattle.one_block.specs.declared.file_faults.FileFault.{FileFault}
 use Rattle.one_block.specs.declared.file_faults.FileFault.TheVariants.{Bad, OtherType, Mem}
 use Rattle.one_block.specs.declared.forms.Form.{Form}

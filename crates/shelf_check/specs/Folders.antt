@@ -1,5 +1,5 @@
 -- The folders whose files hold one block each.
-use Rattle.std.specs.Prelude.{ℕ, ◌≡◌, List, [], ◌∷◌, ◌++◌, length, map, reverse, codes, Option, None, Some, ⊤, Result, Ok, Err}
+use Rattle.std.specs.Prelude.{ℕ, ◌≡◌, List, [], ◌∷◌, ◌++◌, length, map, reverse, codes, Option, Some, ⊤, Result, Ok, Err}
 use Rattle.block_record.specs.declared.blocks.Block.{Block}
 use Rattle.outer_world.specs.Files.{Files}
 use Rattle.file_reader.specs.Reading.{HasText}

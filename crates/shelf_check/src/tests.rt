@@ -64,30 +64,25 @@ fn report(alloc: Global, shelf: &mut MemoryShelf) -> Option<Report> {
     check_shelf(alloc, shelf).ok()
 }
 
-/// A shelf with two bundles, a one-block file and a forked block.
+/// The last file of merged blocks of a full shelf.
+const LAST: &str = "merged/10000000000.dbin";
+
+/// A shelf with two files of merged blocks, a one-block file and a forked block. Its bases of ten and
+/// eleven digits stand in another order by bytes.
 fn full_shelf(alloc: Global) -> Result<MemoryShelf, Fail> {
     let mut shelf = MemoryShelf::new(alloc);
-    let first = [(1, "a1", 0, "a0"), (99, "b2", 1, "a1")];
-    put(&mut shelf, alloc, "merged/0000000000.dbin", &first, 0)?;
-    let second = [(150, "c3", 99, "b2")];
-    put(&mut shelf, alloc, "merged/0000000100.dbin", &second, 0)?;
+    let first = [
+        (2_000_000_001, "a1", 0, "a0"),
+        (2_000_000_099, "b2", 2_000_000_001, "a1"),
+    ];
+    put(&mut shelf, alloc, "merged/2000000000.dbin", &first, 0)?;
+    let second = [(10_000_000_050, "c3", 2_000_000_099, "b2")];
+    put(&mut shelf, alloc, LAST, &second, 0)?;
     let one = "one/0000000151-19700101T000000.0-d4-c3-0-r1.dbin";
     put(&mut shelf, alloc, one, &[(151, "d4", 150, "c3")], 0)?;
     let forked = [(2, "f2", 1, "a1")];
     put(&mut shelf, alloc, "forked/0000000002-f2.dbin", &forked, 0)?;
     Ok(shelf)
-}
-
-#[test]
-fn an_empty_shelf_has_nothing(rt: HostRuntime) {
-    let mut shelf = MemoryShelf::new(rt.alloc());
-    let none = Report {
-        bundles: 0,
-        blocks: 0,
-        one: 0,
-        forked: 0,
-    };
-    assert!(rt; report(rt.alloc(), &mut shelf) == Some(none));
 }
 
 #[test]
@@ -98,29 +93,6 @@ fn files_and_blocks_are_counted(rt: HostRuntime) -> Result<(), Fail> {
         blocks: 3,
         one: 1,
         forked: 1,
-    };
-    assert!(rt; report(rt.alloc(), &mut shelf) == Some(counts));
-    Ok(())
-}
-
-/// A shelf whose bases of ten and eleven digits stand in another order by bytes.
-fn long_shelf(alloc: Global) -> Result<MemoryShelf, Fail> {
-    let mut shelf = MemoryShelf::new(alloc);
-    let low = [(2_000_000_001, "a1", 0, "a0")];
-    put(&mut shelf, alloc, "merged/2000000000.dbin", &low, 0)?;
-    let high = [(10_000_000_005, "b2", 2_000_000_001, "a1")];
-    put(&mut shelf, alloc, "merged/10000000000.dbin", &high, 0)?;
-    Ok(shelf)
-}
-
-#[test]
-fn bases_are_read_as_numbers(rt: HostRuntime) -> Result<(), Fail> {
-    let mut shelf = long_shelf(rt.alloc())?;
-    let counts = Report {
-        bundles: 2,
-        blocks: 2,
-        one: 0,
-        forked: 0,
     };
     assert!(rt; report(rt.alloc(), &mut shelf) == Some(counts));
     Ok(())
@@ -150,45 +122,21 @@ const B2: Given = (2, "b2", 1, "a1");
 
 const ONE: &str = "one/0000000001-19700101T000000.0-a1-a0-0-r1.dbin";
 
-const BAD: [Row; 20] = [
+const FIRST: &str = "merged/0000000000.dbin";
+
+const BAD: [Row; 12] = [
     ("merged/0000000001.dbin", [A1, B2], 2, 0, 0),
-    ("merged/000000000.dbin", [A1, B2], 2, 0, 0),
-    ("merged/0000000000.dbin", [A1, B2], 0, 0, 17),
-    ("merged/0000000000.dbin", [A1, B2], 2, 3, 113),
-    (
-        "merged/0000000000.dbin",
-        [A1, (100, "b2", 1, "a1")],
-        2,
-        0,
-        69,
-    ),
-    ("merged/0000000100.dbin", [A1, B2], 1, 0, 21),
-    ("merged/0000000000.dbin", [A1, (2, "b2", 1, "zz")], 2, 0, 69),
-    ("merged/0000000000.dbin", [A1, (3, "b2", 2, "a1")], 2, 0, 69),
-    (
-        "merged/0000000000.dbin",
-        [(0, "a1", 0, "a0"), (0, "b2", 0, "a1")],
-        2,
-        0,
-        69,
-    ),
-    (
-        "merged/0000000000.dbin",
-        [A1, (2, "b-", 1, "a1")],
-        2,
-        0,
-        102,
-    ),
+    (FIRST, [A1, B2], 0, 0, 17),
+    (FIRST, [A1, B2], 2, 3, 113),
+    (FIRST, [A1, (100, "b2", 1, "a1")], 2, 0, 69),
+    (FIRST, [A1, (2, "b2", 1, "zz")], 2, 0, 69),
+    (FIRST, [A1, (2, "b-", 1, "a1")], 2, 0, 102),
     (ONE, [A1, B2], 0, 0, 17),
     (ONE, [A1, B2], 2, 0, 65),
-    (ONE, [A1, B2], 1, 1, 65),
     (ONE, [B2, A1], 2, 0, 0),
-    (ONE, [(1, "a1", 1, "a0"), B2], 2, 0, 30),
-    ("one/a.dbin", [A1, B2], 0, 0, 0),
-    ("forked/0000000001-a1.dbin", [A1, B2], 2, 0, 65),
+    ("forked/0000000001-a1.dbin", [A1, B2], 1, 1, 65),
     ("forked/0000000001-a2.dbin", [A1, B2], 1, 0, 0),
     ("forked/1-a1.dbin", [A1, B2], 1, 0, 0),
-    ("forked/0000000001-a1.dbin", [A1, B2], 0, 3, 17),
 ];
 
 fn bad_place(alloc: Global, row: Row) -> Result<Option<u64>, Fail> {
@@ -201,8 +149,7 @@ fn bad_place(alloc: Global, row: Row) -> Result<Option<u64>, Fail> {
 #[test]
 fn a_bad_file_is_named_at_its_first_fault(rt: HostRuntime) -> Result<(), Fail> {
     for row in BAD {
-        let found = bad_place(rt.alloc(), row)?;
-        assert!(rt; found == Some(row.4), "{} with {} blocks", row.0, row.2);
+        assert!(rt; bad_place(rt.alloc(), row)? == Some(row.4));
     }
     Ok(())
 }
@@ -211,9 +158,9 @@ fn a_bad_file_is_named_at_its_first_fault(rt: HostRuntime) -> Result<(), Fail> {
 fn blocks_are_children_over_all_files(rt: HostRuntime) -> Result<(), Fail> {
     let alloc = rt.alloc();
     let mut shelf = full_shelf(alloc)?;
-    let apart = [(150, "c3", 99, "b3")];
-    put(&mut shelf, alloc, "merged/0000000100.dbin", &apart, 0)?;
-    assert!(rt; place(alloc, &mut shelf, "merged/0000000100.dbin") == Some(21));
+    let apart = [(10_000_000_050, "c3", 2_000_000_099, "b3")];
+    put(&mut shelf, alloc, LAST, &apart, 0)?;
+    assert!(rt; place(alloc, &mut shelf, LAST) == Some(21));
     Ok(())
 }
 
@@ -235,21 +182,20 @@ fn two_types_clash(rt: HostRuntime) -> Result<(), Fail> {
     Ok(())
 }
 
-/// The answer to an empty shelf whose call of this number fails, counted from 0.
+/// The answer to a shelf with one file whose call of this number fails, counted from 0.
 fn failing(alloc: Global, call: u64) -> Result<Result<Report, LoadFault>, Fail> {
+    let mut shelf = MemoryShelf::new(alloc);
+    put(&mut shelf, alloc, FIRST, &[A1], 0)?;
     let fails = Vec::from_slice(alloc, &[call])?;
-    let mut shelf = FailingShelf::new(MemoryShelf::new(alloc), fails);
+    let mut shelf = FailingShelf::new(shelf, fails);
     Ok(check_shelf(alloc, &mut shelf))
 }
 
 #[test]
 fn a_failed_call_is_told(rt: HostRuntime) -> Result<(), Fail> {
-    for call in 0..3 {
-        let answer = failing(rt.alloc(), call)?;
-        assert!(rt;
-            answer == Err(LoadFault::Store(StoreFault::ShelfFault)),
-            "call {call}"
-        );
+    let told = Err(LoadFault::Store(StoreFault::ShelfFault));
+    for call in 0..5 {
+        assert!(rt; failing(rt.alloc(), call)? == told);
     }
     Ok(())
 }

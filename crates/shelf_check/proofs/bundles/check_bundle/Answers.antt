@@ -1,4 +1,4 @@
-use Rattle.std.proofs.Common.{arith, ◌≡◌, ℕ, List, [], Option, Some, None, Ok, ap, subst, sym, ◌∙◌}
+use Rattle.std.proofs.Common.{arith, ℕ, List, [], Option, Some, Ok, ap, subst, sym, ◌∙◌}
 use Rattle.std.proofs.lemmas.Result.{err_from_is_err_and}
 use Rattle.block_record.specs.declared.blocks.BlockRef.{BlockRef}
 use Rattle.file_reader.specs.Reading.{FileState, HasReadOn}
@@ -38,8 +38,11 @@ returns-in_err-next-clause-answer g c =
 pub overflow_add-blocks : goal.overflow_add-blocks
 overflow_add-blocks g c =
     let A : Option BlockRef → Type 0 = λ o. FirstAnswers c.args.base (next_record_place c.loop-last.file) c.loop-last.last c.loop-last.file.left (Ok o) in
-    omega (arith, counts_on (g.S.Shelf.files c.args.shelf.now) c.args.base c.args.name.now c.args.kept.now c.args.tip c.loop-last.file c.block_type.inside.bytes.items c.loop-last.last c.loop-last.blocks c.loop-last.invariant.read
-    c.in-Some.next (subst A c.in-Some.is c.in_ok-next.ensures))
+    omega (
+      arith,
+      counts_on (g.S.Shelf.files c.args.shelf.now) c.args.base c.args.name.now c.args.kept.now c.args.tip c.loop-last.file c.block_type.inside.bytes.items c.loop-last.last c.loop-last.blocks c.loop-last.invariant.read
+          c.in-Some.next (subst A c.in-Some.is c.in_ok-next.ensures),
+    )
 
 pub loop-last-smaller : goal.loop-last-smaller
 loop-last-smaller g c =
