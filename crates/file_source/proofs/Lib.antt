@@ -1,0 +1,2 @@
+mod SearchFacts
+mod FetchFacts

@@ -1,0 +1,12 @@
+//! Blocks from the files of a shelf, each by its slip.
+#![tactic(auto)]
+
+mod places;
+mod search;
+mod source;
+
+pub use places::fetch;
+pub use source::BlockSource;
+
+#[cfg(test)]
+mod tests;
