@@ -1,18 +1,17 @@
 -- What the files of a block give, one after another.
-use Rattle.std.proofs.Common.{◌≡◌, ◌≢◌, ℕ, ◌≤◌, ◌↔◌, Bool, true, false, IsTrue, List, [], ◌∷◌, ◌++◌, length, Option, Some, None, Result, Ok, Err, inl, inr, refl, sym, ap, subst, ◌∙◌, arith}
+use Rattle.std.proofs.Common.{◌≡◌, ℕ, ◌≤◌, ◌↔◌, Bool, true, IsTrue, List, [], ◌∷◌, ◌++◌, length, Option, Some, None, Ok, refl, sym, ap, subst, ◌∙◌}
 use Rattle.std.specs.Option.{option_map, is_some}
 use Rattle.std.specs.List.{AllByRecursion}
-use Rattle.std.proofs.lemmas.Bool.{false≢true}
 use Rattle.block_record.specs.declared.blocks.Block.{Block}
 use Rattle.block_record.specs.declared.blocks.Slip.{Slip}
-use Rattle.block_record.specs.Slips.{slip, same_slip}
+use Rattle.block_record.specs.Slips.{same_slip}
 use Rattle.block_record.proofs.public.SlipFacts.{same_slip_is, same_slip_refl}
 use Rattle.outer_world.specs.Files.{Files, file_at}
 use Rattle.outer_world.specs.Shelves.{Holds, HasSize}
 use Rattle.one_block.specs.Files.{forked_text}
 use Rattle.one_block.specs.declared.faults.StoreFault.{StoreFault}
 use Rattle.one_block.specs.declared.faults.StoreFault.TheVariants.{ShelfFault, ShelfBad, Missing, StoredOther, NameClash, Mem}
-use Rattle.file_source.specs.Sources.{files_of, merged_of, HasUnder, LacksId, IsBadUnder, IsFirstFile, IsFound, IsFetched, IsMissing, FetchRefused}
+use Rattle.file_source.specs.Sources.{files_of, merged_of, HasUnder, LacksId, IsBadUnder, IsFirstFile, IsFetched, IsMissing, FetchRefused}
 use Rattle.file_source.specs.Steps.{IsReadCause, SearchRefused, SearchAnswers, IsUnder, FindRefused, FindAnswers, JudgeRefused}
 use Rattle.file_source.proofs.SearchFacts.{rose_later}
 

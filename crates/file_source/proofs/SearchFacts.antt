@@ -1,5 +1,5 @@
 -- What a file is found to have under an id, by what its reader has read.
-use Rattle.std.proofs.Common.{◌≡◌, ◌≢◌, ℕ, Bool, true, false, Result, Ok, Err, ◌+◌, ◌-◌, ◌^◌, ◌<◌, ◌≤◌, IsTrue, List, [], ◌∷◌, ◌++◌, length, Option, Some, None, ◌⊎◌, inl, inr, refl, sym, ap, subst, ◌∙◌, arith, min}
+use Rattle.std.proofs.Common.{◌≡◌, ◌≢◌, ℕ, Bool, true, false, Result, Ok, Err, ◌+◌, ◌-◌, ◌^◌, ◌<◌, ◌≤◌, IsTrue, List, [], ◌∷◌, ◌++◌, length, Option, Some, None, ◌⊎◌, inl, inr, refl, sym, ap, subst, ◌∙◌, arith}
 use Rattle.std.specs.Prelude.{slice_get}
 use Rattle.std.specs.List.{AllByRecursion}
 use Rattle.std.specs.Option.{option_map, unwrap_or}
@@ -10,13 +10,13 @@ use Rattle.outer_world.specs.Causes.{Rose}
 use Rattle.outer_world.specs.Files.{Files, file_at}
 use Rattle.outer_world.specs.Shelves.{Holds, HasSize}
 use Rattle.dbin_file.specs.declared.faults.DbinFault.{DbinFault}
-use Rattle.dbin_file.specs.Contents.{contents, message_place, told}
+use Rattle.dbin_file.specs.Contents.{message_place, told}
 use Rattle.dbin_file.specs.Reader.{end_fault}
 use Rattle.file_reader.specs.Reading.{FileState, HasText, HasRead, pass}
 use Rattle.file_reader.proofs.public.ReadFacts.{type_read, next_in, all_passed}
 use Rattle.one_block.specs.declared.faults.StoreFault.{StoreFault}
 use Rattle.one_block.specs.declared.faults.StoreFault.TheVariants.{ShelfFault, ShelfBad, Missing, StoredOther, NameClash, Mem}
-use Rattle.one_block.specs.Containers.{container_fault, fault_place, IsRecordOf, IsBadField}
+use Rattle.one_block.specs.Containers.{fault_place, IsRecordOf, IsBadField}
 use Rattle.one_block.proofs.public.OptionFacts.{some_is}
 use Rattle.file_source.specs.Texts.{IsOfOther, AreOfOthers}
 use Rattle.file_source.specs.Sources.{HasUnder, HoldsOthers, IsBadUnder}

@@ -1,4 +1,4 @@
-use Rattle.std.proofs.Common.{ap, arith, ◌∙◌}
+use Rattle.std.proofs.Common.{ap, arith}
 use Rattle.std.proofs.lemmas.Result.{err_from_is_err_and}
 use Rattle.file_reader.specs.Reading.{FileState}
 use Rattle.file_source.proofs.FetchFacts.{sized, under_at, judge_refused}
