@@ -76,24 +76,24 @@ module _ (files : Option Files) (r : FileState) (front : List ℕ) (given : List
           let n = next_in files r front m given more t.0 h e t.1 in
           record { text = n.text; there = n.there; typed = n.typed ∙ sym t.1 }
 
-  head_bad : (base : ℕ) (kept : Option (List ℕ)) (before : Option BlockRef) (e : FileFault) → HeadRefused r.reader.block_type kept (end_of r) e → IsBadBundle files kept before base r.name e
-  head_bad base kept before (Bad at) refused = by_left r.left refl
+  head_bad : (size base : ℕ) (kept : Option (List ℕ)) (before : Option BlockRef) (e : FileFault) → HeadRefused r.reader.block_type kept (end_of r) e → IsBadBundle size files kept before base r.name e
+  head_bad size base kept before (Bad at) refused = by_left r.left refl
     where
-      by_left : (ms : List (List ℕ)) → r.left ≡ ms → IsBadBundle files kept before base r.name (Bad at)
+      by_left : (ms : List (List ℕ)) → r.left ≡ ms → IsBadBundle size files kept before base r.name (Bad at)
       by_left [] e =
           let a = all_passed files r front given h e (stands e) in
           record { text = a.text; there = a.there; refused = inl (record { untyped = a.typed ∙ refused.0; place = refused.1 ∙ end_is files r given a }) }
       by_left (m ∷ more) e = absurd (let t = type_read files r front m given more h e in let clash = sym refused.0 ∙ t.1 in cc clash)
-  head_bad base kept before (OtherType held offered) o = let t = typed_text in record { text = t.text; there = t.there; refused = record { typed = t.typed ∙ o.found_is; kept_is = o.kept_is; other = o.other } }
-  head_bad base kept before Mem refused = let t = typed_text in record { text = t.text; there = t.there; refused = tt }
+  head_bad size base kept before (OtherType held offered) o = let t = typed_text in record { text = t.text; there = t.there; refused = record { typed = t.typed ∙ o.found_is; kept_is = o.kept_is; other = o.other } }
+  head_bad size base kept before Mem refused = let t = typed_text in record { text = t.text; there = t.there; refused = tt }
 
-  pub head_refused : (base : ℕ) (name : List ℕ) (kept : Option (List ℕ)) (before : Option BlockRef) (e : FileFault) → r.name ≡ name → HeadRefused r.reader.block_type kept (end_of r) e → IsBadBundle files kept before base name e
-  head_refused base name kept before e named refused = let P : List ℕ → Type 0 = λ n. IsBadBundle files kept before base n e in subst P named (head_bad base kept before e refused)
+  pub head_refused : (size base : ℕ) (name : List ℕ) (kept : Option (List ℕ)) (before : Option BlockRef) (e : FileFault) → r.name ≡ name → HeadRefused r.reader.block_type kept (end_of r) e → IsBadBundle size files kept before base name e
+  head_refused size base name kept before e named refused = let P : List ℕ → Type 0 = λ n. IsBadBundle size files kept before base n e in subst P named (head_bad size base kept before e refused)
 
 -- ---- the blocks
 
 -- of the file of this base these blocks were read, which obey the rule after the files before it
-pub record IsReading (files : Option Files) (base : ℕ) (name : List ℕ) (kept : Option (List ℕ)) (before : Option BlockRef) (r : FileState) (block_type : List ℕ) (last : Option BlockRef) (count : ℕ) : Type 0 where
+pub record IsReading (files : Option Files) (size base : ℕ) (name : List ℕ) (kept : Option (List ℕ)) (before : Option BlockRef) (r : FileState) (block_type : List ℕ) (last : Option BlockRef) (count : ℕ) : Type 0 where
   pub front : List ℕ
   pub given : List (List ℕ)
   pub read : HasRead files r front given
@@ -103,15 +103,15 @@ pub record IsReading (files : Option Files) (base : ℕ) (name : List ℕ) (kept
   pub same : IsKept kept block_type
   pub blocks : List Block
   pub records : AreRecords given blocks
-  pub next : AreNext base before blocks
+  pub next : AreNext size base before blocks
   pub last_is : last ≡ tip_after before blocks
   pub count_is : count ≡ length blocks
 
 -- no block was read yet
-pub no_block : (files : Option Files) (base : ℕ) (name : List ℕ) (kept : Option (List ℕ)) (before : Option BlockRef) (r : FileState) (front block_type : List ℕ)
+pub no_block : (files : Option Files) (size base : ℕ) (name : List ℕ) (kept : Option (List ℕ)) (before : Option BlockRef) (r : FileState) (front block_type : List ℕ)
     → HasRead files r front [] → r.name ≡ name → r.reader.block_type ≡ Some block_type → (r.left ≡ [] → IsTrue r.over) → IsKept kept block_type
-    → IsReading files base name kept before r block_type before 0
-no_block files base name kept before r front block_type h named typed stands same = record {
+    → IsReading files size base name kept before r block_type before 0
+no_block files size base name kept before r front block_type h named typed stands same = record {
   front = front;
   given = [];
   read = h;
@@ -130,19 +130,19 @@ pass_name : (r : FileState) (ms : List (List ℕ)) → (pass r ms).name ≡ r.na
 pass_name r [] = refl
 pass_name r (m ∷ ms) = refl
 
-module _ (files : Option Files) (base : ℕ) (name : List ℕ) (kept : Option (List ℕ)) (before : Option BlockRef) (r : FileState) (block_type : List ℕ) (last : Option BlockRef) (count : ℕ) (g : IsReading files base name kept before r block_type last count) where
+module _ (files : Option Files) (size base : ℕ) (name : List ℕ) (kept : Option (List ℕ)) (before : Option BlockRef) (r : FileState) (block_type : List ℕ) (last : Option BlockRef) (count : ℕ) (g : IsReading files size base name kept before r block_type last count) where
   abbrev Answer : List (List ℕ) → Result (Option BlockRef) FileFault → Type 0
-  Answer ms result = FirstAnswers base (next_record_place r) last ms result
+  Answer ms result = FirstAnswers size base (next_record_place r) last ms result
 
   abbrev BadBundle : FileFault → Type 0
-  BadBundle e = IsBadBundle files kept before base name e
+  BadBundle e = IsBadBundle size files kept before base name e
 
   -- the block that was read is that of a message
   record IsFirst (tip : BlockRef) : Type 0 where
     m : List ℕ
     more : List (List ℕ)
     left_is : r.left ≡ m ∷ more
-    first : IsNextRecord base last m tip
+    first : IsNextRecord size base last m tip
 
   first_is : (tip : BlockRef) → Answer r.left (Ok (Some tip)) → IsFirst tip
   first_is tip answer = by_left r.left refl
@@ -161,23 +161,23 @@ module _ (files : Option Files) (base : ℕ) (name : List ℕ) (kept : Option (L
   -- a message that may not come next
   module _ (m : List ℕ) (more : List (List ℕ)) (left_is : r.left ≡ m ∷ more) where
     bad_message : (text : List ℕ) (rest : List (List ℕ)) (at : ℕ) → (contents text).block_type ≡ Some block_type → (contents text).messages ≡ g.given ++ m ∷ rest
-        → IsNoRecord (next_record_place r) m at ⊎ IsNotNext base last (next_record_place r) m at → IsBadMessage base (record_place text) (contents text).messages before at
+        → IsNoRecord (next_record_place r) m at ⊎ IsNotNext size base last (next_record_place r) m at → IsBadMessage size base (record_place text) (contents text).messages before at
     bad_message text rest at typed messages bad = record { blocks = g.blocks; front = g.given; message = m; more = rest; messages_are = messages; records = g.records; next = g.next; bad = by_cause bad }
       where
         place : next_record_place r ≡ told (place_after (record_place text) g.given)
         place = place_is r block_type text g.given g.typed typed g.read.passed_is
 
-        by_cause : IsNoRecord (next_record_place r) m at ⊎ IsNotNext base last (next_record_place r) m at
-            → IsNoRecord (place_after (record_place text) g.given) m at ⊎ IsNotNext base (tip_after before g.blocks) (place_after (record_place text) g.given) m at
+        by_cause : IsNoRecord (next_record_place r) m at ⊎ IsNotNext size base last (next_record_place r) m at
+            → IsNoRecord (place_after (record_place text) g.given) m at ⊎ IsNotNext size base (tip_after before g.blocks) (place_after (record_place text) g.given) m at
         by_cause (inl n) = inl (record { none = n.none; byte = n.byte; fault = n.fault; at_is = n.at_is ∙ ap (λ a. told (a + n.byte)) place ∙ told_more (place_after (record_place text) g.given) n.byte })
         by_cause (inr n) = inr (record {
           block = n.block;
           record_is = n.record_is;
-          not_next = ap (λ (t : Option BlockRef). is_next base t n.block) (sym g.last_is) ∙ n.not_next;
+          not_next = ap (λ (t : Option BlockRef). is_next size base t n.block) (sym g.last_is) ∙ n.not_next;
           at_is = n.at_is ∙ ap told place ∙ told_twice (place_after (record_place text) g.given);
         })
 
-    message_refused : (e : FileFault) → NextRefused base (next_record_place r) last m e → BadBundle e
+    message_refused : (e : FileFault) → NextRefused size base (next_record_place r) last m e → BadBundle e
     message_refused (Bad at) bad =
         let n = next_in files r g.front m g.given more block_type g.read left_is g.typed in
         record {
@@ -190,7 +190,7 @@ module _ (files : Option Files) (base : ℕ) (name : List ℕ) (kept : Option (L
         let n = next_in files r g.front m g.given more block_type g.read left_is g.typed in
         record { text = n.text; there = subst (λ (l : List ℕ). HasText files l n.text) g.named n.there; refused = tt }
 
-  pub first_refused : (e : FileFault) → FirstAnswers base (next_record_place r) last r.left (Err e) → IsBadBundle files kept before base name e
+  pub first_refused : (e : FileFault) → FirstAnswers size base (next_record_place r) last r.left (Err e) → IsBadBundle size files kept before base name e
   first_refused e answer = by_left r.left refl
     where
       by_left : (ms : List (List ℕ)) → r.left ≡ ms → BadBundle e
@@ -198,17 +198,17 @@ module _ (files : Option Files) (base : ℕ) (name : List ℕ) (kept : Option (L
       by_left (m ∷ more) is = message_refused m more is e (subst (λ (l : List (List ℕ)). Answer l (Err e)) is answer)
 
   -- one more block can be counted
-  pub counts_on : (tip : BlockRef) → FirstAnswers base (next_record_place r) last r.left (Ok (Some tip)) → count + 1 < 2 ^ 64
+  pub counts_on : (tip : BlockRef) → FirstAnswers size base (next_record_place r) last r.left (Ok (Some tip)) → count + 1 < 2 ^ 64
   counts_on tip answer =
       let f = first_is tip answer in
       omega (arith, counted files r g.front g.given g.read, length-append g.given r.left, ap length f.left_is, length_records g.given g.blocks g.records, g.count_is)
 
   -- one more block
-  module _ (tip : BlockRef) (answer : FirstAnswers base (next_record_place r) last r.left (Ok (Some tip))) where
+  module _ (tip : BlockRef) (answer : FirstAnswers size base (next_record_place r) last r.left (Ok (Some tip))) where
     pub reads_on : (files' : Option Files) (r' r'' : FileState) → files' ≡ files
         → ((fs : Option Files) (front m : List ℕ) (given more : List (List ℕ)) → HasRead fs r front given → r.left ≡ m ∷ more → HasRead fs r' front (given ++ m ∷ []))
         → r' ≡ pass r r.left → ReadsOn files' r' r'' → r''.name ≡ r'.name → (r''.left ≡ [] → IsTrue r''.over)
-        → IsReading files base name kept before r'' block_type (Some tip) (count + 1)
+        → IsReading files size base name kept before r'' block_type (Some tip) (count + 1)
     reads_on files' r' r'' same_files given passed read same_name stands =
         let f = first_is tip answer in
         let P : Option Files → Type 0 = λ fs. ReadsOn fs r' r'' in
@@ -223,7 +223,7 @@ module _ (files : Option Files) (base : ℕ) (name : List ℕ) (kept : Option (L
           same = g.same;
           blocks = f.first.block ∷ g.blocks;
           records = records_more g.given g.blocks f.m f.first.block g.records f.first.record_is;
-          next = (subst (λ (t : Option BlockRef). IsTrue (is_next base t f.first.block)) g.last_is f.first.next, g.next);
+          next = (subst (λ (t : Option BlockRef). IsTrue (is_next size base t f.first.block)) g.last_is f.first.next, g.next);
           last_is = ap Some f.first.tip_is;
           count_is = omega (arith, g.count_is);
         }
@@ -243,14 +243,14 @@ module _ (files : Option Files) (base : ℕ) (name : List ℕ) (kept : Option (L
 
   -- ---- the end
 
-  module _ (found : Option BlockRef) (no_more : (tip : BlockRef) → found ≡ Some tip → ⊥) (answer : FirstAnswers base (next_record_place r) last r.left (Ok found)) where
+  module _ (found : Option BlockRef) (no_more : (tip : BlockRef) → found ≡ Some tip → ⊥) (answer : FirstAnswers size base (next_record_place r) last r.left (Ok found)) where
     is_none : (o : Option BlockRef) → ((tip : BlockRef) → o ≡ Some tip → ⊥) → o ≡ None
     is_none None never = refl
     is_none (Some tip) never = absurd (never tip refl)
 
     all : IsAll files r g.given
     all =
-        let A : Option BlockRef → Type 0 = λ o. FirstAnswers base (next_record_place r) last r.left (Ok o) in
+        let A : Option BlockRef → Type 0 = λ o. FirstAnswers size base (next_record_place r) last r.left (Ok o) in
         let none = none_left (subst A (is_none found no_more) answer) in
         all_passed files r g.front g.given g.read none (g.stands none)
 
@@ -280,7 +280,7 @@ module _ (files : Option Files) (base : ℕ) (name : List ℕ) (kept : Option (L
         no_blocks (x ∷ older) e = absurd (omega (arith, e))
     not_ended (inr (inr bad)) = ap (λ t. (length g.blocks == 0) || t) (ap (λ (o : Option DbinFault). is_some o) all.fault ∙ bad) ∙ or_true (length g.blocks == 0)
 
-    pub last_refused : (e : FileFault) → LastRefused r last count e → IsBadBundle files kept before base name e
+    pub last_refused : (e : FileFault) → LastRefused r last count e → IsBadBundle size files kept before base name e
     last_refused (Bad at) refused = record {
       text = all.text;
       there = there;
@@ -293,7 +293,7 @@ module _ (files : Option Files) (base : ℕ) (name : List ℕ) (kept : Option (L
     last_refused (OtherType held offered) refused = absurd refused
     last_refused Mem refused = absurd refused
 
-    pub bundle_whole : (tip : BlockRef) → IsLastOf r last count tip → IsBundleReadOn files base name kept before (record { block_type = block_type; tip = tip; blocks = count })
+    pub bundle_whole : (tip : BlockRef) → IsLastOf r last count tip → IsBundleReadOn size files base name kept before (record { block_type = block_type; tip = tip; blocks = count })
     bundle_whole tip l = record {
       text = all.text;
       there = there;

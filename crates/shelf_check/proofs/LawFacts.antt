@@ -22,9 +22,9 @@ use Rattle.one_block.proofs.public.RecordFacts.{Begins, begins, length_records}
 use Rattle.shelf_check.proofs.ListFacts.{turned}
 
 -- the block after some may come next
-next_of : (base : ℕ) (before : Option BlockRef) (xs : List Block) (b : Block) (older : List Block) → AreNext base before (xs ++ b ∷ older) → IsTrue (is_next base (tip_after before older) b)
-next_of base before [] b older n = n.0
-next_of base before (x ∷ xs) b older n = next_of base before xs b older n.1
+next_of : (size base : ℕ) (before : Option BlockRef) (xs : List Block) (b : Block) (older : List Block) → AreNext size base before (xs ++ b ∷ older) → IsTrue (is_next size base (tip_after before older) b)
+next_of size base before [] b older n = n.0
+next_of size base before (x ∷ xs) b older n = next_of size base before xs b older n.1
 
 -- a file of the kept type has no other type
 no_other : (text : List ℕ) (kept : Option (List ℕ)) (block_type held offered : List ℕ) → (contents text).block_type ≡ Some block_type → IsKept kept block_type → HasOtherType text kept held offered → ⊥
@@ -42,8 +42,8 @@ no_other text kept block_type held offered typed same o = by_kept kept refl
         let one : h ≡ held = cc there in
         o.other (sym one ∙ is ∙ one_type)
 
-module _ (base : ℕ) (text : List ℕ) (kept : Option (List ℕ)) (before : Option BlockRef) (block_type : List ℕ) (blocks : List Block) (good : IsBundle base text kept before block_type blocks) where
-  no_bad_message : (at : ℕ) → IsBadMessage base (record_place text) (contents text).messages before at → ⊥
+module _ (size base : ℕ) (text : List ℕ) (kept : Option (List ℕ)) (before : Option BlockRef) (block_type : List ℕ) (blocks : List Block) (good : IsBundle size base text kept before block_type blocks) where
+  no_bad_message : (at : ℕ) → IsBadMessage size base (record_place text) (contents text).messages before at → ⊥
   no_bad_message at bad = by_cause bad.bad
     where
       begun : Begins (reverse blocks) (reverse bad.blocks) bad.message
@@ -52,17 +52,17 @@ module _ (base : ℕ) (text : List ℕ) (kept : Option (List ℕ)) (before : Opt
           (subst (λ (ms : List (List ℕ)). AreRecordsOf ms (reverse blocks)) bad.messages_are good.holds.records.records)
           bad.records.records
 
-      next : IsTrue (is_next base (tip_after before bad.blocks) begun.block)
-      next = next_of base before (reverse begun.rest) begun.block bad.blocks (subst (AreNext base before) (turned blocks bad.blocks begun.block begun.rest begun.whole) good.next)
+      next : IsTrue (is_next size base (tip_after before bad.blocks) begun.block)
+      next = next_of size base before (reverse begun.rest) begun.block bad.blocks (subst (AreNext size base before) (turned blocks bad.blocks begun.block begun.rest begun.whole) good.next)
 
-      by_cause : IsNoRecord (place_after (record_place text) bad.front) bad.message at ⊎ (IsNotNext base (tip_after before bad.blocks) (place_after (record_place text) bad.front) bad.message at) → ⊥
+      by_cause : IsNoRecord (place_after (record_place text) bad.front) bad.message at ⊎ (IsNotNext size base (tip_after before bad.blocks) (place_after (record_place text) bad.front) bad.message at) → ⊥
       by_cause (inl n) = n.none begun.block begun.record_is.recordable begun.record_is.text
       by_cause (inr n) =
           let same : n.block ≡ begun.block = one_block bad.message n.block begun.block n.record_is begun.record_is in
-          let clash : true ≡ false = sym next ∙ ap (λ (b : Block). is_next base (tip_after before bad.blocks) b) (sym same) ∙ n.not_next in
+          let clash : true ≡ false = sym next ∙ ap (λ (b : Block). is_next size base (tip_after before bad.blocks) b) (sym same) ∙ n.not_next in
           cc clash
 
-  no_bad_end : (at : ℕ) → IsBadEnd base text before at → ⊥
+  no_bad_end : (at : ℕ) → IsBadEnd size base text before at → ⊥
   no_bad_end at bad =
       let long : 0 < length blocks = ltb-true 0 (length blocks) good.some in
       let many : length bad.blocks ≡ length blocks = sym (length_records (contents text).messages bad.blocks bad.records) ∙ length_records (contents text).messages blocks good.holds.records in
@@ -72,11 +72,11 @@ module _ (base : ℕ) (text : List ℕ) (kept : Option (List ℕ)) (before : Opt
       by_test true never e = never refl
       by_test false never e = cc e
 
-  pub taken_bundle : (fault : FileFault) → BundleRefused base text kept before fault → fault ≡ Mem
+  pub taken_bundle : (fault : FileFault) → BundleRefused size base text kept before fault → fault ≡ Mem
   taken_bundle (Bad at) (inl head) = absurd (let clash = sym good.holds.typed ∙ head.untyped in cc clash)
   taken_bundle (Bad at) (inr body) = absurd (by_body body.body)
     where
-      by_body : IsBadMessage base (record_place text) (contents text).messages before at ⊎ IsBadEnd base text before at → ⊥
+      by_body : IsBadMessage size base (record_place text) (contents text).messages before at ⊎ IsBadEnd size base text before at → ⊥
       by_body (inl bad) = no_bad_message at bad
       by_body (inr bad) = no_bad_end at bad
   taken_bundle (OtherType held offered) o = absurd (no_other text kept block_type held offered good.holds.typed good.same o)
@@ -97,4 +97,4 @@ module _ (form : Form) (name text : List ℕ) (kept : Option (List ℕ)) (block_
   taken_single Mem o = refl
 
 pub good_files_are_taken : GoodFilesAreTaken
-good_files_are_taken = record { bundle = λ base text kept before block_type blocks fault good. taken_bundle base text kept before block_type blocks good fault; single = λ form name text kept block_type block fault good. taken_single form name text kept block_type block good fault }
+good_files_are_taken = record { bundle = λ size base text kept before block_type blocks fault good. taken_bundle size base text kept before block_type blocks good fault; single = λ form name text kept block_type block fault good. taken_single form name text kept block_type block good fault }

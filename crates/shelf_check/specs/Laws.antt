@@ -10,7 +10,7 @@ use Rattle.one_block.specs.Singles.{IsSingleOf, FormedRefused}
 
 -- a good file is refused for want of memory alone
 pub record GoodFilesAreTaken : Type 0 where
-  pub bundle : (base : ℕ) (text : List ℕ) (kept : Option (List ℕ)) (before : Option BlockRef) (block_type : List ℕ) (blocks : List Block) (fault : FileFault)
-      → IsBundle base text kept before block_type blocks → BundleRefused base text kept before fault → fault ≡ Mem
+  pub bundle : (size base : ℕ) (text : List ℕ) (kept : Option (List ℕ)) (before : Option BlockRef) (block_type : List ℕ) (blocks : List Block) (fault : FileFault)
+      → IsBundle size base text kept before block_type blocks → BundleRefused size base text kept before fault → fault ≡ Mem
   pub single : (form : Form) (name text : List ℕ) (kept : Option (List ℕ)) (block_type : List ℕ) (block : Block) (fault : FileFault)
       → IsSingleOf form name text kept block_type block → FormedRefused form name text kept fault → fault ≡ Mem

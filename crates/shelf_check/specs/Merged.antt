@@ -7,7 +7,7 @@ use Rattle.std.specs.Cmp.Lexicographic.{slice_cmp}
 use Rattle.block_record.specs.declared.blocks.Block.{Block}
 use Rattle.block_record.specs.declared.blocks.BlockRef.{BlockRef}
 use Rattle.dbin_file.specs.Contents.{told}
-use Rattle.one_block.specs.Files.{base_in}
+use Rattle.one_block.specs.Files.{base_in, folder_of_size}
 use Rattle.outer_world.specs.Files.{Files}
 use Rattle.outer_world.specs.Shelves.{AreNamesOf}
 use Rattle.one_block.specs.declared.file_faults.FileFault.{FileFault}
@@ -29,14 +29,14 @@ abbrev pub entry_order : Entry → Entry → Ordering
 entry_order a b = ordering_then (nat_cmp a.0 b.0) (slice_cmp nat_cmp a.1 b.1)
 
 -- each of these names is that of a file of merged blocks, and these are the bases and names
-pub record AreBased (names : List (List ℕ)) (entries : List Entry) : Type 0 where
+pub record AreBased (size : ℕ) (names : List (List ℕ)) (entries : List Entry) : Type 0 where
   pub names_are : names ≡ map (λ e. e.1) entries
-  pub bases : map (base_in 100) names ≡ map (λ e. Some e.0) entries
+  pub bases : map (base_in size) names ≡ map (λ e. Some e.0) entries
 
 -- the same in the order of bases
-pub record AreOrdered (names : List (List ℕ)) (entries : List Entry) : Type 0 where
+pub record AreOrdered (size : ℕ) (names : List (List ℕ)) (entries : List Entry) : Type 0 where
   pub found : List Entry
-  pub based : AreBased names found
+  pub based : AreBased size names found
   pub all : IsPermutation found entries
   pub in_order : IsSorted entry_order entries
 
@@ -49,9 +49,9 @@ pub record Bundle : Type 0 where
   pub blocks : List Block
 
 -- a file on the shelf obeys the rule, after files of this type and after this block
-pub record IsBundleOn (files : Option Files) (kept : Option (List ℕ)) (before : Option BlockRef) (x : Bundle) : Type 0 where
+pub record IsBundleOn (size : ℕ) (files : Option Files) (kept : Option (List ℕ)) (before : Option BlockRef) (x : Bundle) : Type 0 where
   pub there : HasText files x.name x.text
-  pub bundle : IsBundle x.base x.text kept before x.block_type x.blocks
+  pub bundle : IsBundle size x.base x.text kept before x.block_type x.blocks
 
 -- the type of these files, the last one first
 abbrev pub kept_of : List Bundle → Option (List ℕ)
@@ -69,116 +69,116 @@ block_count [] = 0
 block_count (x ∷ older) = block_count older + length x.blocks
 
 -- files, the last one first, obey the rule, each after those before it
-abbrev pub AreBundles : Option Files → List Bundle → Type 0
-AreBundles files [] = ⊤
-AreBundles files (x ∷ older) = IsBundleOn files (kept_of older) (tip_of older) x × AreBundles files older
+abbrev pub AreBundles : ℕ → Option Files → List Bundle → Type 0
+AreBundles size files [] = ⊤
+AreBundles size files (x ∷ older) = IsBundleOn size files (kept_of older) (tip_of older) x × AreBundles size files older
 
 -- bases and names of files, in the order in which they are read, where the last one stands first
 abbrev pub entries_of : List Bundle → List Entry
 entries_of bundles = map (λ x. (x.base, x.name)) (reverse bundles)
 
 -- these are all files of merged blocks, the last one first, and they obey the rule
-pub record IsMerged (files : Option Files) (bundles : List Bundle) : Type 0 where
+pub record IsMerged (size : ℕ) (files : Option Files) (bundles : List Bundle) : Type 0 where
   pub names : List (List ℕ)
-  pub listed : AreNamesOf files (codes "merged") names
-  pub ordered : AreOrdered names (entries_of bundles)
-  pub good : AreBundles files bundles
+  pub listed : AreNamesOf files (folder_of_size size) names
+  pub ordered : AreOrdered size names (entries_of bundles)
+  pub good : AreBundles size files bundles
 
 -- the first of the names that is not that of a file of merged blocks
-pub record IsOtherName (names : List (List ℕ)) (name : List ℕ) (fault : FileFault) : Type 0 where
+pub record IsOtherName (size : ℕ) (names : List (List ℕ)) (name : List ℕ) (fault : FileFault) : Type 0 where
   pub entries : List Entry
   pub more : List (List ℕ)
   pub names_are : names ≡ map (λ e. e.1) entries ++ name ∷ more
-  pub bases : map (base_in 100) (map (λ e. e.1) entries) ≡ map (λ e. Some e.0) entries
-  pub other : base_in 100 name ≡ None
+  pub bases : map (base_in size) (map (λ e. e.1) entries) ≡ map (λ e. Some e.0) entries
+  pub other : base_in size name ≡ None
   pub place : fault ≡ Bad 0
 
 -- the file of this base and name is refused for this, after files of this type and after this block
-pub record IsBadBundle (files : Option Files) (kept : Option (List ℕ)) (before : Option BlockRef) (base : ℕ) (name : List ℕ) (fault : FileFault) : Type 0 where
+pub record IsBadBundle (size : ℕ) (files : Option Files) (kept : Option (List ℕ)) (before : Option BlockRef) (base : ℕ) (name : List ℕ) (fault : FileFault) : Type 0 where
   pub text : List ℕ
   pub there : HasText files name text
-  pub refused : BundleRefused base text kept before fault
+  pub refused : BundleRefused size base text kept before fault
 
 -- what was read of the file of this base and name
-pub record IsBundleReadOn (files : Option Files) (base : ℕ) (name : List ℕ) (kept : Option (List ℕ)) (before : Option BlockRef) (x : BundleRead) : Type 0 where
+pub record IsBundleReadOn (size : ℕ) (files : Option Files) (base : ℕ) (name : List ℕ) (kept : Option (List ℕ)) (before : Option BlockRef) (x : BundleRead) : Type 0 where
   pub text : List ℕ
   pub there : HasText files name text
-  pub read : IsBundleRead base text kept before x
+  pub read : IsBundleRead size base text kept before x
 
 -- what is answered to the file of this base and name, after files of this type and after this block, where the count of faults was one and is now another
-abbrev pub BundleAnswers : Option Files → ℕ → List ℕ → Option (List ℕ) → Option BlockRef → ℕ → ℕ → Result BundleRead ReadFault → Type 0
-BundleAnswers files base name kept before then now (Ok x) = IsBundleReadOn files base name kept before x
-BundleAnswers files base name kept before then now (Err fault) = ReadRefused (IsBadBundle files kept before base name) then now fault
+abbrev pub BundleAnswers : ℕ → Option Files → ℕ → List ℕ → Option (List ℕ) → Option BlockRef → ℕ → ℕ → Result BundleRead ReadFault → Type 0
+BundleAnswers size files base name kept before then now (Ok x) = IsBundleReadOn size files base name kept before x
+BundleAnswers size files base name kept before then now (Err fault) = ReadRefused (IsBadBundle size files kept before base name) then now fault
 
 -- the first of these files obey the rule, and the next one does not
-pub record IsFirstOf (files : Option Files) (entries : List Entry) (name : List ℕ) (fault : FileFault) : Type 0 where
+pub record IsFirstOf (size : ℕ) (files : Option Files) (entries : List Entry) (name : List ℕ) (fault : FileFault) : Type 0 where
   pub bundles : List Bundle
   pub base : ℕ
   pub more : List Entry
   pub entries_are : entries ≡ entries_of bundles ++ (base, name) ∷ more
-  pub good : AreBundles files bundles
-  pub bad : IsBadBundle files (kept_of bundles) (tip_of bundles) base name fault
+  pub good : AreBundles size files bundles
+  pub bad : IsBadBundle size files (kept_of bundles) (tip_of bundles) base name fault
 
 -- the first file by bases that is refused
-pub record IsFirstBased (files : Option Files) (names : List (List ℕ)) (name : List ℕ) (fault : FileFault) : Type 0 where
+pub record IsFirstBased (size : ℕ) (files : Option Files) (names : List (List ℕ)) (name : List ℕ) (fault : FileFault) : Type 0 where
   pub entries : List Entry
-  pub ordered : AreOrdered names entries
-  pub first : IsFirstOf files entries name fault
+  pub ordered : AreOrdered size names entries
+  pub first : IsFirstOf size files entries name fault
 
 -- the first fault of the folder: all names are read before a file is
-pub record IsFirstIn (files : Option Files) (name : List ℕ) (fault : FileFault) : Type 0 where
+pub record IsFirstIn (size : ℕ) (files : Option Files) (name : List ℕ) (fault : FileFault) : Type 0 where
   pub names : List (List ℕ)
-  pub listed : AreNamesOf files (codes "merged") names
-  pub first : IsOtherName names name fault ⊎ IsFirstBased files names name fault
+  pub listed : AreNamesOf files (folder_of_size size) names
+  pub first : IsOtherName size names name fault ⊎ IsFirstBased size files names name fault
 
 -- what is answered to names, with no call of a shelf, so that no count rises
-abbrev pub EntriesAnswer : List (List ℕ) → Result (Vec Entry) LoadFault → Type 0
-EntriesAnswer names (Ok entries) = AreBased names entries.items
-EntriesAnswer names (Err fault) = Refused (λ name f. IsOtherName names name f) 1 0 fault
+abbrev pub EntriesAnswer : ℕ → List (List ℕ) → Result (Vec Entry) LoadFault → Type 0
+EntriesAnswer size names (Ok entries) = AreBased size names entries.items
+EntriesAnswer size names (Err fault) = Refused (λ name f. IsOtherName size names name f) 1 0 fault
 
 -- one more file was read
-pub record IsNextRead (files : Option Files) (base : ℕ) (name : List ℕ) (old new : MergedRead) : Type 0 where
+pub record IsNextRead (size : ℕ) (files : Option Files) (base : ℕ) (name : List ℕ) (old new : MergedRead) : Type 0 where
   pub x : Bundle
   pub base_is : x.base ≡ base
   pub name_is : x.name ≡ name
-  pub good : IsBundleOn files old.kept old.tip x
+  pub good : IsBundleOn size files old.kept old.tip x
   pub kept : new.kept ≡ Some x.block_type
   pub tip : new.tip ≡ tip_after old.tip x.blocks
   pub blocks : new.blocks ≡ told (old.blocks + length x.blocks)
 
 -- the refusal of the file of this base and name
-pub record IsRefusedBundle (files : Option Files) (base : ℕ) (name : List ℕ) (old : MergedRead) (told_name : List ℕ) (fault : FileFault) : Type 0 where
+pub record IsRefusedBundle (size : ℕ) (files : Option Files) (base : ℕ) (name : List ℕ) (old : MergedRead) (told_name : List ℕ) (fault : FileFault) : Type 0 where
   pub told_is : told_name ≡ name
-  pub bad : IsBadBundle files old.kept old.tip base name fault
+  pub bad : IsBadBundle size files old.kept old.tip base name fault
 
 -- what is answered to one more file
-abbrev pub NextAnswers : Option Files → ℕ → List ℕ → MergedRead → ℕ → ℕ → Result MergedRead LoadFault → Type 0
-NextAnswers files base name old before now (Ok new) = IsNextRead files base name old new
-NextAnswers files base name old before now (Err fault) = Refused (λ told_name f. IsRefusedBundle files base name old told_name f) before now fault
+abbrev pub NextAnswers : ℕ → Option Files → ℕ → List ℕ → MergedRead → ℕ → ℕ → Result MergedRead LoadFault → Type 0
+NextAnswers size files base name old before now (Ok new) = IsNextRead size files base name old new
+NextAnswers size files base name old before now (Err fault) = Refused (λ told_name f. IsRefusedBundle size files base name old told_name f) before now fault
 
 -- what was read of these files
-pub record AreRead (files : Option Files) (entries : List Entry) (read : MergedRead) : Type 0 where
+pub record AreRead (size : ℕ) (files : Option Files) (entries : List Entry) (read : MergedRead) : Type 0 where
   pub bundles : List Bundle
   pub entries_are : entries ≡ entries_of bundles
-  pub good : AreBundles files bundles
+  pub good : AreBundles size files bundles
   pub kept : read.kept ≡ kept_of bundles
   pub tip : read.tip ≡ tip_of bundles
   pub blocks : read.blocks ≡ told (block_count bundles)
 
 -- what is answered to these files
-abbrev pub ReadAnswers : Option Files → List Entry → ℕ → ℕ → Result MergedRead LoadFault → Type 0
-ReadAnswers files entries before now (Ok read) = AreRead files entries read
-ReadAnswers files entries before now (Err fault) = Refused (λ name f. IsFirstOf files entries name f) before now fault
+abbrev pub ReadAnswers : ℕ → Option Files → List Entry → ℕ → ℕ → Result MergedRead LoadFault → Type 0
+ReadAnswers size files entries before now (Ok read) = AreRead size files entries read
+ReadAnswers size files entries before now (Err fault) = Refused (λ name f. IsFirstOf size files entries name f) before now fault
 
 -- what was read of the folder
-pub record IsFolderRead (files : Option Files) (bundles_read : ℕ) (read : MergedRead) : Type 0 where
+pub record IsFolderRead (size : ℕ) (files : Option Files) (bundles_read : ℕ) (read : MergedRead) : Type 0 where
   pub bundles : List Bundle
-  pub whole : IsMerged files bundles
+  pub whole : IsMerged size files bundles
   pub kept : read.kept ≡ kept_of bundles
   pub blocks : read.blocks ≡ told (block_count bundles)
   pub count : bundles_read ≡ length bundles
 
 -- what is answered to the folder
-abbrev pub FolderAnswers : Option Files → ℕ → ℕ → Result (ℕ × MergedRead) LoadFault → Type 0
-FolderAnswers files before now (Ok read) = IsFolderRead files read.0 read.1
-FolderAnswers files before now (Err fault) = Refused (λ name f. IsFirstIn files name f) before now fault
+abbrev pub FolderAnswers : ℕ → Option Files → ℕ → ℕ → Result (ℕ × MergedRead) LoadFault → Type 0
+FolderAnswers size files before now (Ok read) = IsFolderRead size files read.0 read.1
+FolderAnswers size files before now (Err fault) = Refused (λ name f. IsFirstIn size files name f) before now fault

@@ -2,6 +2,8 @@
 use Rattle.std.specs.Prelude.{ℕ, ◌≡◌, ◌⊎◌, List, length, Option, None, Some, Result, Ok, Err}
 use Rattle.dbin_file.specs.Contents.{told}
 use Rattle.outer_world.specs.Files.{Files}
+use Rattle.one_block.specs.Layout.{HasLayout, layout_file}
+use Rattle.one_block.specs.declared.file_faults.FileFault.TheVariants.{Bad}
 use Rattle.shelf_check.specs.declared.check.Report.{Report}
 use Rattle.one_block.specs.declared.file_faults.FileFault.{FileFault}
 use Rattle.shelf_check.specs.declared.faults.LoadFault.{LoadFault}
@@ -16,33 +18,52 @@ use Rattle.shelf_check.specs.Refusals.{Refused}
 abbrev pub report_of : List Bundle → List Single → List Single → Report
 report_of bundles one forked = record { bundles = length bundles; blocks = told (block_count bundles); one = length one; forked = length forked }
 
--- all files of the three folders have their form, and one type; those of merged blocks obey the rule; and this is how many there are
+-- the layout tells a size, and all files of the three folders of this size have their form, and one type; those of merged blocks obey the rule; and this is how many there are
 pub record IsGood (files : Option Files) (report : Report) : Type 0 where
+  pub size : ℕ
+  pub layout : HasLayout files (Ok size)
   pub bundles : List Bundle
   pub one : List Single
   pub forked : List Single
-  pub merged_folder : IsMerged files bundles
+  pub merged_folder : IsMerged size files bundles
   pub one_folder : IsFolder One files (kept_of bundles) one
   pub forked_folder : IsFolder Forked files (kept_after (kept_of bundles) one) forked
   pub counts : report ≡ report_of bundles one forked
 
+-- the layout tells no size
+pub record IsBadLayout (files : Option Files) (name : List ℕ) (fault : FileFault) : Type 0 where
+  pub at : ℕ
+  pub layout : HasLayout files (Err at)
+  pub name_is : name ≡ layout_file
+  pub fault_is : fault ≡ Bad at
+
+-- the layout tells a size, and the first fault is in the folder of merged blocks of this size
+pub record IsFirstInSize (files : Option Files) (name : List ℕ) (fault : FileFault) : Type 0 where
+  pub size : ℕ
+  pub layout : HasLayout files (Ok size)
+  pub first : IsFirstInMerged size files name fault
+
 -- the files of merged blocks are good, and the first fault is in `one/`
 pub record IsFirstInOne (files : Option Files) (name : List ℕ) (fault : FileFault) : Type 0 where
+  pub size : ℕ
+  pub layout : HasLayout files (Ok size)
   pub bundles : List Bundle
-  pub merged_folder : IsMerged files bundles
+  pub merged_folder : IsMerged size files bundles
   pub first : IsFirstInFolder One files (kept_of bundles) name fault
 
 -- the files of merged blocks and those in `one/` are good, and the first fault is in `forked/`
 pub record IsFirstInForked (files : Option Files) (name : List ℕ) (fault : FileFault) : Type 0 where
+  pub size : ℕ
+  pub layout : HasLayout files (Ok size)
   pub bundles : List Bundle
   pub one : List Single
-  pub merged_folder : IsMerged files bundles
+  pub merged_folder : IsMerged size files bundles
   pub one_folder : IsFolder One files (kept_of bundles) one
   pub first : IsFirstInFolder Forked files (kept_after (kept_of bundles) one) name fault
 
 -- the first fault of the shelf
 abbrev pub IsFirstFault : Option Files → List ℕ → FileFault → Type 0
-IsFirstFault files name fault = IsFirstInMerged files name fault ⊎ (IsFirstInOne files name fault ⊎ IsFirstInForked files name fault)
+IsFirstFault files name fault = IsBadLayout files name fault ⊎ (IsFirstInSize files name fault ⊎ (IsFirstInOne files name fault ⊎ IsFirstInForked files name fault))
 
 -- what is answered to a shelf, whose count of faults was one and is now another
 abbrev pub CheckAnswers : Option Files → ℕ → ℕ → Result Report LoadFault → Type 0

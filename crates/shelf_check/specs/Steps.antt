@@ -13,32 +13,32 @@ use Rattle.one_block.specs.Containers.{fault_place, IsRecordOf, IsNoRecord}
 use Rattle.shelf_check.specs.Bundles.{is_next, block_ref, IsNotNext}
 
 -- a message is the record of a block that may come next
-pub record IsNextRecord (base : ℕ) (before : Option BlockRef) (message : List ℕ) (tip : BlockRef) : Type 0 where
+pub record IsNextRecord (size base : ℕ) (before : Option BlockRef) (message : List ℕ) (tip : BlockRef) : Type 0 where
   pub block : Block
   pub record_is : IsRecordOf message block
-  pub next : IsTrue (is_next base before block)
+  pub next : IsTrue (is_next size base before block)
   pub tip_is : tip ≡ block_ref block
 
-abbrev pub NextRefused : ℕ → ℕ → Option BlockRef → List ℕ → FileFault → Type 0
-NextRefused base place before message (Bad at) = IsNoRecord place message at ⊎ IsNotNext base before place message at
-NextRefused base place before message (OtherType held offered) = ⊥
-NextRefused base place before message Mem = ⊤
+abbrev pub NextRefused : ℕ → ℕ → ℕ → Option BlockRef → List ℕ → FileFault → Type 0
+NextRefused size base place before message (Bad at) = IsNoRecord place message at ⊎ IsNotNext size base before place message at
+NextRefused size base place before message (OtherType held offered) = ⊥
+NextRefused size base place before message Mem = ⊤
 
 -- what is answered of a message at this place, after this block
-abbrev pub NextAnswers : ℕ → ℕ → Option BlockRef → List ℕ → Result BlockRef FileFault → Type 0
-NextAnswers base place before message (Ok tip) = IsNextRecord base before message tip
-NextAnswers base place before message (Err fault) = NextRefused base place before message fault
+abbrev pub NextAnswers : ℕ → ℕ → ℕ → Option BlockRef → List ℕ → Result BlockRef FileFault → Type 0
+NextAnswers size base place before message (Ok tip) = IsNextRecord size base before message tip
+NextAnswers size base place before message (Err fault) = NextRefused size base place before message fault
 
 -- the place of the bytes of the message that stands next
 abbrev pub next_record_place : FileState → ℕ
 next_record_place r = told (place_of r + 4)
 
 -- the first of these messages, if there is one, is answered so
-abbrev pub FirstAnswers : ℕ → ℕ → Option BlockRef → List (List ℕ) → Result (Option BlockRef) FileFault → Type 0
-FirstAnswers base place before [] result = result ≡ Ok None
-FirstAnswers base place before (message ∷ more) (Ok None) = ⊥
-FirstAnswers base place before (message ∷ more) (Ok (Some tip)) = IsNextRecord base before message tip
-FirstAnswers base place before (message ∷ more) (Err fault) = NextRefused base place before message fault
+abbrev pub FirstAnswers : ℕ → ℕ → ℕ → Option BlockRef → List (List ℕ) → Result (Option BlockRef) FileFault → Type 0
+FirstAnswers size base place before [] result = result ≡ Ok None
+FirstAnswers size base place before (message ∷ more) (Ok None) = ⊥
+FirstAnswers size base place before (message ∷ more) (Ok (Some tip)) = IsNextRecord size base before message tip
+FirstAnswers size base place before (message ∷ more) (Err fault) = NextRefused size base place before message fault
 
 -- where a file of which no message is left ends too early: at its container's fault, or else at its end
 abbrev pub end_of : FileState → ℕ

@@ -3,8 +3,9 @@
 ghost use Rattle.std.specs.Prelude.{◌≡◌, ◌≤◌, IfOk};
 ghost use Rattle.std.specs.Option.{option_map};
 ghost use Rattle.file_reader.specs.Reading.{HasRead};
+ghost use Rattle.one_block.specs.Files.{IsSize};
 ghost use Rattle.one_block.specs.SingleSteps.{HeadAnswers};
-ghost use Rattle.shelf_check.specs.Bundles.{block_ref, hundred as hundred_of, is_child as is_child_of, is_next as may_be_next};
+ghost use Rattle.shelf_check.specs.Bundles.{block_ref, bundle_base as base_of_bundle, is_child as is_child_of, is_next as may_be_next};
 ghost use Rattle.shelf_check.specs.Merged.{BundleAnswers};
 ghost use Rattle.shelf_check.specs.Steps.{FirstAnswers, LastAnswers, NextAnswers, end_of as end_of_file, next_record_place};
 
@@ -26,18 +27,20 @@ pub struct BundleRead {
     pub blocks: u64,
 }
 
-/// What the file of merged blocks of this base and name holds, or where it is bad, after files of
+/// What the file of merged blocks of this size, base and name holds, or where it is bad, after files of
 /// this type and after this block. Its blocks are read one after another, and none is kept but the
 /// last.
 pub fn check_bundle<S: Shelf>(
     alloc: Global,
     shelf: &mut S,
+    size: u64,
     base: u64,
     name: &FileName,
     kept: &Option<TypeName>,
     tip: Option<BlockRef>,
 ) -> Result<BundleRead, ReadFault>
-    ensures answer { BundleAnswers (S.files shelf.old) base name.now kept.now tip
+    requires { IsSize size }
+    ensures answer { BundleAnswers size (S.files shelf.old) base name.now kept.now tip
         (S.shelf_faults shelf.old) (S.shelf_faults shelf.new) result }
     ensures files { S.files shelf.new ≡ S.files shelf.old }
     ensures staged { S.staged shelf.new ≡ S.staged shelf.old }
@@ -49,7 +52,7 @@ pub fn check_bundle<S: Shelf>(
     let block_type = read_type(&file, kept)?;
     let mut last = tip;
     let mut blocks = 0;
-    while let Some(next) = first_block(alloc, base, &file, &last)? {
+    while let Some(next) = first_block(alloc, size, base, &file, &last)? {
         last = Some(next);
         blocks += 1;
         file.advance();
@@ -95,16 +98,18 @@ fn end_of(file: &FileReader) -> u64
 /// next.
 fn first_block(
     alloc: Global,
+    size: u64,
     base: u64,
     file: &FileReader,
     tip: &Option<BlockRef>,
 ) -> Result<Option<BlockRef>, FileFault>
-    ensures { FirstAnswers base (next_record_place file.now) tip.now file.now.left result }
+    requires { IsSize size }
+    ensures { FirstAnswers size base (next_record_place file.now) tip.now file.now.left result }
 {
     match file.message() {
         Some(message) => {
             let at = file.place().saturating_add(4);
-            let next = next_block(alloc, base, at, tip, message.as_bytes())?;
+            let next = next_block(alloc, size, base, at, tip, message.as_bytes())?;
             Ok(Some(next))
         }
         None => Ok(None),
@@ -131,15 +136,17 @@ fn last_block(file: &FileReader, last: Option<BlockRef>, blocks: u64) -> Result<
 /// The block of a record at this place, which must be one that may come next.
 fn next_block(
     alloc: Global,
+    size: u64,
     base: u64,
     at: u64,
     tip: &Option<BlockRef>,
     bytes: &[u8],
 ) -> Result<BlockRef, FileFault>
-    ensures { NextAnswers base at tip.now bytes.now result }
+    requires { IsSize size }
+    ensures { NextAnswers size base at tip.now bytes.now result }
 {
     let block = decode_at(alloc, bytes, at)?;
-    if is_next(base, tip, &block) {
+    if is_next(size, base, tip, &block) {
         Ok(into_ref(block))
     } else {
         Err(FileFault::Bad { at })
@@ -154,11 +161,12 @@ fn into_ref(block: Block) -> BlockRef
     BlockRef { num, id }
 }
 
-/// Whether a block may stand in the file of this base, after this block.
-fn is_next(base: u64, tip: &Option<BlockRef>, block: &Block) -> bool
-    ensures { result ≡ may_be_next base tip.now block.now }
+/// Whether a block may stand in the file of this size and base, after this block.
+fn is_next(size: u64, base: u64, tip: &Option<BlockRef>, block: &Block) -> bool
+    requires { IsSize size }
+    ensures { result ≡ may_be_next size base tip.now block.now }
 {
-    if hundred(block.num) != base {
+    if bundle_base(size, block.num) != base {
         return false;
     }
     match tip {
@@ -167,11 +175,12 @@ fn is_next(base: u64, tip: &Option<BlockRef>, block: &Block) -> bool
     }
 }
 
-/// The base of the hundred in which a number lies.
-fn hundred(num: u64) -> u64
-    ensures { result ≡ hundred_of num }
+/// The base of the file of this size in which a number lies.
+fn bundle_base(size: u64, num: u64) -> u64
+    requires { IsSize size }
+    ensures { result ≡ base_of_bundle size num }
 {
-    num - num % 100
+    num - num % size
 }
 
 /// Whether a block is the child of the one before it, with a greater number.

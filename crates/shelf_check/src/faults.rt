@@ -47,6 +47,17 @@ impl From<ShelfFail> for LoadFault {
     }
 }
 
+impl From<StoreFault> for LoadFault {
+    ghost use Rattle.std.specs.Prelude.{◌≡◌};
+    ghost use Rattle.shelf_check.specs.declared.faults.LoadFault.TheVariants.{Store};
+
+    ghost from_gives = { λ cause fault. fault ≡ Store cause };
+
+    fn from(fault: StoreFault) -> LoadFault {
+        LoadFault::Store(fault)
+    }
+}
+
 /// Why a file was not read to its end.
 #[derive(PartialEq, Eq, Debug, Drop)]
 pub enum ReadFault {

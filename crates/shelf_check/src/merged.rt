@@ -1,12 +1,13 @@
 //! The folder of merged blocks.
 
 ghost use Rattle.std.specs.Prelude.{◌≡◌, ◌≤◌, ◌++◌, ◌∷◌, [], OnOk};
+ghost use Rattle.one_block.specs.Files.{IsSize};
 ghost use Rattle.shelf_check.specs.Merged.{EntriesAnswer, NextAnswers, ReadAnswers, FolderAnswers};
 
 use crate::bundles::check_bundle;
 use crate::faults::{LoadFault, bad_file, with_file};
 use block_record::{BlockRef, TypeName};
-use one_block::merged_base_in;
+use one_block::{merged_base_in, merged_folder};
 use outer_world::{FileName, Shelf};
 use std::alloc::{AllocError, Global};
 
@@ -21,29 +22,36 @@ pub struct MergedRead {
     pub blocks: u64,
 }
 
-/// Reads all files of merged blocks, by their bases as numbers, and tells how many they are.
-pub fn check_merged<S: Shelf>(alloc: Global, shelf: &mut S) -> Result<(u64, MergedRead), LoadFault>
-    ensures answer { FolderAnswers (S.files shelf.old)
+/// Reads all files of merged blocks of this size, by their bases as numbers, and tells how many they
+/// are.
+pub fn check_merged<S: Shelf>(
+    alloc: Global,
+    shelf: &mut S,
+    size: u64,
+) -> Result<(u64, MergedRead), LoadFault>
+    requires { IsSize size }
+    ensures answer { FolderAnswers size (S.files shelf.old)
         (S.shelf_faults shelf.old) (S.shelf_faults shelf.new) result }
     ensures files { S.files shelf.new ≡ S.files shelf.old }
     ensures staged { S.staged shelf.new ≡ S.staged shelf.old }
     ensures later { S.shelf_faults shelf.old ≤ S.shelf_faults shelf.new }
 {
     let mut names = Vec::new(alloc);
-    shelf.list(alloc, "merged", &mut names)?;
-    let mut entries = based(alloc, names.as_slice())?;
+    shelf.list(alloc, merged_folder(size), &mut names)?;
+    let mut entries = based(alloc, size, names.as_slice())?;
     entries.sort_unstable();
-    let read = check_entries(alloc, shelf, entries.as_slice())?;
+    let read = check_entries(alloc, shelf, size, entries.as_slice())?;
     Ok((entries.len() as u64, read))
 }
 
 /// The names with their bases.
-fn based(alloc: Global, names: &[FileName]) -> Result<Vec<(u64, FileName)>, LoadFault>
-    ensures { EntriesAnswer names.now result }
+fn based(alloc: Global, size: u64, names: &[FileName]) -> Result<Vec<(u64, FileName)>, LoadFault>
+    requires { IsSize size }
+    ensures { EntriesAnswer size names.now result }
 {
     let mut entries = Vec::new(alloc);
     for name in names {
-        match merged_base_in(100, name) {
+        match merged_base_in(size, name) {
             Some(base) => add_entry(alloc, base, name, &mut entries)?,
             None => return Err(bad_file(alloc, name, 0)),
         }
@@ -69,9 +77,11 @@ fn add_entry(
 fn check_entries<S: Shelf>(
     alloc: Global,
     shelf: &mut S,
+    size: u64,
     entries: &[(u64, FileName)],
 ) -> Result<MergedRead, LoadFault>
-    ensures answer { ReadAnswers (S.files shelf.old) entries.now
+    requires { IsSize size }
+    ensures answer { ReadAnswers size (S.files shelf.old) entries.now
         (S.shelf_faults shelf.old) (S.shelf_faults shelf.new) result }
     ensures files { S.files shelf.new ≡ S.files shelf.old }
     ensures staged { S.staged shelf.new ≡ S.staged shelf.old }
@@ -83,7 +93,7 @@ fn check_entries<S: Shelf>(
         blocks: 0,
     };
     for entry in entries {
-        read = check_next(alloc, shelf, entry.0, &entry.1, read)?;
+        read = check_next(alloc, shelf, size, entry.0, &entry.1, read)?;
     }
     Ok(read)
 }
@@ -92,18 +102,20 @@ fn check_entries<S: Shelf>(
 fn check_next<S: Shelf>(
     alloc: Global,
     shelf: &mut S,
+    size: u64,
     base: u64,
     name: &FileName,
     read: MergedRead,
 ) -> Result<MergedRead, LoadFault>
-    ensures answer { NextAnswers (S.files shelf.old) base name.now read
+    requires { IsSize size }
+    ensures answer { NextAnswers size (S.files shelf.old) base name.now read
         (S.shelf_faults shelf.old) (S.shelf_faults shelf.new) result }
     ensures files { S.files shelf.new ≡ S.files shelf.old }
     ensures staged { S.staged shelf.new ≡ S.staged shelf.old }
     ensures later { S.shelf_faults shelf.old ≤ S.shelf_faults shelf.new }
 {
     let MergedRead { kept, tip, blocks } = read;
-    match check_bundle(alloc, shelf, base, name, &kept, tip) {
+    match check_bundle(alloc, shelf, size, base, name, &kept, tip) {
         Ok(next) => Ok(MergedRead {
             kept: Some(next.block_type),
             tip: Some(next.tip),

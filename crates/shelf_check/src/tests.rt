@@ -65,18 +65,20 @@ fn report(alloc: Global, shelf: &mut MemoryShelf) -> Option<Report> {
 }
 
 /// The last file of merged blocks of a full shelf.
-const LAST: &str = "merged/10000000000.dbin";
+const LAST: &str = "merged1000/10000000000.dbin";
 
-/// A shelf with two files of merged blocks, a one-block file and a forked block. Its bases of ten and
-/// eleven digits stand in another order by bytes.
+/// A shelf whose files of merged blocks cover 1,000 numbers each. It has two of them, whose bases of
+/// ten and eleven digits stand in another order by bytes, a one-block file and a forked block.
 fn full_shelf(alloc: Global) -> Result<MemoryShelf, Fail> {
     let mut shelf = MemoryShelf::new(alloc);
+    let layout = FileName::new(alloc, b"layout/bundle")?;
+    write_file(&mut shelf, &layout, b"1000\n")?;
     let first = [
         (2_000_000_001, "a1", 0, "a0"),
-        (2_000_000_099, "b2", 2_000_000_001, "a1"),
+        (2_000_000_999, "b2", 2_000_000_001, "a1"),
     ];
-    put(&mut shelf, alloc, "merged/2000000000.dbin", &first, 0)?;
-    let second = [(10_000_000_050, "c3", 2_000_000_099, "b2")];
+    put(&mut shelf, alloc, "merged1000/2000000000.dbin", &first, 0)?;
+    let second = [(10_000_000_150, "c3", 2_000_000_999, "b2")];
     put(&mut shelf, alloc, LAST, &second, 0)?;
     let one = "one/0000000151-19700101T000000.0-d4-c3-0-r1.dbin";
     put(&mut shelf, alloc, one, &[(151, "d4", 150, "c3")], 0)?;
@@ -158,7 +160,7 @@ fn a_bad_file_is_named_at_its_first_fault(rt: HostRuntime) -> Result<(), Fail> {
 fn blocks_are_children_over_all_files(rt: HostRuntime) -> Result<(), Fail> {
     let alloc = rt.alloc();
     let mut shelf = full_shelf(alloc)?;
-    let apart = [(10_000_000_050, "c3", 2_000_000_099, "b3")];
+    let apart = [(10_000_000_150, "c3", 2_000_000_999, "b3")];
     put(&mut shelf, alloc, LAST, &apart, 0)?;
     assert!(rt; place(alloc, &mut shelf, LAST) == Some(21));
     Ok(())
@@ -194,7 +196,7 @@ fn failing(alloc: Global, call: u64) -> Result<Result<Report, LoadFault>, Fail> 
 #[test]
 fn a_failed_call_is_told(rt: HostRuntime) -> Result<(), Fail> {
     let told = Err(LoadFault::Store(StoreFault::ShelfFault));
-    for call in 0..5 {
+    for call in 0..6 {
         assert!(rt; failing(rt.alloc(), call)? == told);
     }
     Ok(())
