@@ -5,7 +5,7 @@ use Rattle.std.specs.Str.{IsUtf8}
 use Rattle.outer_world.proofs.TakenFacts.{took_nothing}
 use Rattle.fire_tool.specs.CursorCommand.{CursorAnswered, CursorRun}
 use Rattle.fire_tool.specs.Program.{RunsCommand, RunsPlain}
-use Rattle.fire_tool.specs.Streams.{SinkState, SourceState, Streams, ToldLine, streams_of}
+use Rattle.command_io.specs.Streams.{SinkState, SourceState, Streams, ToldLine, streams_of}
 use Rattle.fire_tool.specs.Words.{cursor_value}
 
 -- a text that was read as UTF-8 is UTF-8

@@ -11,14 +11,14 @@ use Rattle.outer_world.proofs.TakenFacts.{gains_none, took_more}
 use Rattle.fire_lines.specs.Reader.{ReaderState}
 use Rattle.step_laws.proofs.public.ScratchFacts.{step_text_from_scratch}
 use Rattle.fire_tool.specs.declared.progress.RunEnd.{RunEnd}
-use Rattle.fire_tool.specs.declared.steps.Ended.{Ended}
+use Rattle.command_io.specs.declared.Ended.{Ended}
 use Rattle.fire_tool.specs.declared.steps.StepsStop.{StepsStop}
 use Rattle.fire_tool.specs.declared.steps.StepsStop.TheVariants.{Mem, Read, Write, TooLong}
 use Rattle.step_text.specs.Limits.{line_max, new_world}
 use Rattle.step_text.specs.StepText.{StepText, whole, text_of, tell, step_text}
 use Rattle.fire_tool.specs.ErrorLines.{ending_line, ending_status, IsEndStatus}
 use Rattle.fire_tool.specs.Runs.{IsAnswer, EndsInPiece, Answered, RanOut, ReadFailed, TookTooMuch, Stopped}
-use Rattle.fire_tool.specs.Streams.{Flow, SinkState, SourceState, TookInput}
+use Rattle.command_io.specs.Streams.{Flow, SinkState, SourceState, TookInput}
 use Rattle.fire_tool.specs.Telling.{IsUnderWay, IsEnded, ending_seen}
 use Rattle.fire_tool.specs.Pieces.{PieceTaken}
 use Rattle.fire_lines.specs.Text.{received}

@@ -13,7 +13,7 @@ use Rattle.fire_tool.specs.declared.cursor.CursorStop.{CursorStop}
 use Rattle.fire_tool.specs.declared.cursor.CursorStop.TheVariants.{Mem, Write}
 use Rattle.fire_tool.specs.ErrorLines.{named}
 use Rattle.step_text.specs.StepText.{word_of}
-use Rattle.fire_tool.specs.Streams.{SinkState, Streams, TookInput, WroteNothing, ToldError}
+use Rattle.command_io.specs.Streams.{SinkState, Streams, TookInput, WroteNothing, ToldError}
 
 -- a block that may be missing: `0 -`
 abbrev pub place_text : Option BlockRef → List ℕ

@@ -1,7 +1,6 @@
 pub mod Following
 pub mod ErrorLines
 pub mod Telling
-pub mod Streams
 pub mod Words
 pub mod Runs
 pub mod Pieces

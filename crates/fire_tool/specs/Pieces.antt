@@ -9,7 +9,7 @@ use Rattle.fire_tool.specs.declared.progress.RunEnd.{RunEnd}
 use Rattle.fire_tool.specs.declared.steps.StepsStop.{StepsStop}
 use Rattle.fire_tool.specs.declared.steps.StepsStop.TheVariants.{Mem, Read, Write, TooLong}
 use Rattle.step_text.specs.StepText.{step_text}
-use Rattle.fire_tool.specs.Streams.{SinkState}
+use Rattle.command_io.specs.Streams.{SinkState}
 use Rattle.fire_tool.specs.Telling.{IsUnderWay, IsEnded, ending_seen}
 
 -- the input ends with the piece. The run goes on or was ended by it, with all that it tells written since the start; or there was no memory or a write

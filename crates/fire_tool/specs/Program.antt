@@ -1,9 +1,10 @@
 -- What a run of the program has done, by the words of its command line.
-use Rattle.std.specs.Prelude.{ℕ, ◌≡◌, List, [], Option, None, Some, codes}
+use Rattle.std.specs.Prelude.{ℕ, ◌≡◌, Bool, true, false, List, [], Option, None, Some, codes}
+use Rattle.check_command.specs.Check.{CheckRun}
 use Rattle.fire_tool.specs.CursorCommand.{CursorRun}
 use Rattle.fire_tool.specs.Runs.{StepsRun}
-use Rattle.fire_tool.specs.Streams.{Flow, Streams, TookInput, WroteNothing, ToldError}
-use Rattle.fire_tool.specs.Words.{cursor_value, steps_first}
+use Rattle.command_io.specs.Streams.{Flow, ShelfState, Streams, TookInput, WroteNothing, ToldError}
+use Rattle.fire_tool.specs.Words.{cursor_value, names_check, steps_first}
 
 -- the input and the output were not touched
 pub record Untouched (before after : Flow) : Type 0 where
@@ -26,6 +27,11 @@ abbrev pub RunsCommand : Option (List ℕ) → List (List ℕ) → Streams → S
 RunsCommand None words before after status = Runs (steps_first words) before after status
 RunsCommand (Some text) words before after status = CursorRun text before after status
 
--- a run with these words, by the command that they name
-abbrev pub RunsPlain : List (List ℕ) → Streams → Streams → ℕ → Type 0
-RunsPlain words before after status = RunsCommand (cursor_value words) words before after status
+-- a run of `check`, where the words name that, and else of another command
+abbrev pub RunsNamed : Bool → List (List ℕ) → ShelfState → ShelfState → Streams → Streams → ℕ → Type 0
+RunsNamed true words shelf shelf' before after status = CheckRun shelf shelf' before after status
+RunsNamed false words shelf shelf' before after status = RunsCommand (cursor_value words) words before after status
+
+-- a run with these words over a shelf that was so and is now so, by the command that they name
+abbrev pub RunsPlain : List (List ℕ) → ShelfState → ShelfState → Streams → Streams → ℕ → Type 0
+RunsPlain words shelf shelf' before after status = RunsNamed (names_check words) words shelf shelf' before after status

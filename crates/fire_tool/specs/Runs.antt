@@ -10,7 +10,7 @@ use Rattle.step_laws.specs.Laws.{AreOrderly, TellsHead}
 use Rattle.step_laws.specs.Telling.{blocks_of}
 use Rattle.step_text.specs.StepText.{step_text, whole}
 use Rattle.fire_tool.specs.ErrorLines.{ending_line, ending_status}
-use Rattle.fire_tool.specs.Streams.{Flow, Streams, TookInput, ToldError}
+use Rattle.command_io.specs.Streams.{Flow, Streams, TookInput, ToldError}
 
 -- nothing in the input ended the run before its last piece, which is what one read may give
 pub record EndsInPiece (first : ℕ) (input : List ℕ) : Type 0 where

@@ -1,8 +1,14 @@
 -- What the words of the command line name.
-use Rattle.std.specs.Prelude.{ℕ, ◌==◌, List, [], ◌∷◌, codes, drop, nat_eq, if◌then◌else◌, Option, None, Some}
+use Rattle.std.specs.Prelude.{ℕ, Bool, false, ◌==◌, List, [], ◌∷◌, codes, drop, nat_eq, if◌then◌else◌, Option, None, Some}
 use Rattle.std.specs.List.{starts_with}
 use Rattle.std.specs.Str.{bytes_eq}
 use Rattle.block_record.specs.Number.{number_of}
+
+-- whether the words are `check` alone
+abbrev pub names_check : List (List ℕ) → Bool
+names_check [] = false
+names_check (command ∷ []) = bytes_eq command (codes "check")
+names_check (command ∷ next ∷ more) = false
 
 -- the value of `--first` in the one word `--first=N`
 abbrev pub first_in : List ℕ → Option ℕ

@@ -3,11 +3,11 @@
 ghost use Rattle.std.specs.Prelude.{◌≡◌, ◌++◌, ℕ, List, IfOk, IfErr, OnOk, MatchResult};
 ghost use Rattle.std.specs.Option.{option_copied};
 ghost use Rattle.fire_tool.specs.CursorCommand.{place_text, tail_text, cursor_line as line_of_cursor, malformed_line as line_of_place, IsTextOf, CursorAnswered, CursorStopped, cursor_stop_line, cursor_stop_status};
-ghost use Rattle.fire_tool.specs.Streams.{sink_at};
+ghost use Rattle.command_io.specs.Streams.{sink_at};
 
 use crate::error_lines::push_named;
-use crate::steps::Ended;
 use block_record::BlockRef;
+use command_io::Ended;
 use itoa::Buffer;
 use outer_world::{Sink, write_whole};
 use std::alloc::{AllocError, Global};

@@ -1,23 +1,21 @@
 //! The commands over an input, an output and a place for error lines: what the words name is run, and
 //! how it ended is told.
 
-ghost use Rattle.std.specs.Prelude.{◌≡◌, codes, map};
+ghost use Rattle.std.specs.Prelude.{◌≡◌, codes, false, map, true};
+ghost use Rattle.check_command.specs.Check.{ReportsGood};
 ghost use Rattle.fire_tool.specs.CursorCommand.{CursorRun};
 ghost use Rattle.fire_tool.specs.Program.{RunsPlain};
 ghost use Rattle.fire_tool.specs.Runs.{StepsRun};
-ghost use Rattle.fire_tool.specs.Streams.{SourceState, ToldLine, sink_at, streams_at, streams_of};
+ghost use Rattle.fire_tool.specs.Words.{names_check};
+ghost use Rattle.command_io.specs.Streams.{SourceState, ToldLine, shelf_at, sink_at, streams_at, streams_of};
 
 use crate::cursor::run_cursor;
-use crate::steps::{Ended, run_steps};
-use crate::words::{cursor_value, steps_first};
-use outer_world::{Shelf, Sink, Source, write_whole};
+use crate::steps::run_steps;
+use crate::words::{cursor_value, is_check, steps_first};
+use check_command::run_check;
+use command_io::{Ended, Status, tell_error};
+use outer_world::{Shelf, Sink, Source};
 use std::alloc::Global;
-
-/// How a run ended, as the exit status of the program.
-#[derive(Clone, Copy, Debug, PartialEq, Eq)]
-pub struct Status {
-    pub code: u8,
-}
 
 /// Runs the command that the words name, over an input, an output, a place for error lines and a
 /// shelf, and gives the exit status. It always returns.
@@ -31,13 +29,25 @@ pub fn run_plain<I: Source, O: Sink, E: Sink, S: Shelf>(
 ) -> Status
     // What stands in the streams afterwards, by the command that the words name.
     ensures run { let streams = streams_at I.Source O.Sink E.Sink in
-        RunsPlain (map (λ w. w.items) words.now) (streams input.old output.old errors.old)
+        RunsPlain (map (λ w. w.items) words.now)
+        (shelf_at S.Shelf shelf.old) (shelf_at S.Shelf shelf.new)
+        (streams input.old output.old errors.old)
         (streams input.new output.new errors.new) result.code }
 
-    // No command uses the shelf so far.
-    ensures shelf { shelf.new ≡ shelf.old }
+    // `check` reports a good shelf, unless a call failed or there was no memory.
+    ensures good { let streams = streams_at I.Source O.Sink E.Sink in
+        names_check (map (λ w. w.items) words.now) ≡ true → ReportsGood (S.files shelf.old)
+        (streams input.old output.old errors.old)
+        (streams input.new output.new errors.new) result.code }
+
+    // No command changes a file of the shelf, and only `check` reads one.
+    ensures files { S.files shelf.new ≡ S.files shelf.old }
+    ensures staged { S.staged shelf.new ≡ S.staged shelf.old }
+    ensures shelf { names_check (map (λ w. w.items) words.now) ≡ false → shelf.new ≡ shelf.old }
 {
-    let _ = shelf;
+    if is_check(words) {
+        return run_check(alloc, shelf, output, errors);
+    }
     match cursor_value(words) {
         Some(text) => run_cursor_command(alloc, text, output, errors),
         None => match steps_first(words) {
@@ -111,11 +121,4 @@ fn refuse_words<E: Sink>(errors: &mut E) -> Status
 {
     tell_error(errors, b"fire: usage\n");
     Status { code: 2 }
-}
-
-/// Writes an error line, which may be empty. A failure changes nothing else.
-fn tell_error<E: Sink>(errors: &mut E, line: &[u8])
-    ensures { ToldLine (sink_at E.Sink errors.old) (sink_at E.Sink errors.new) line.now }
-{
-    let _ = write_whole(errors, line);
 }

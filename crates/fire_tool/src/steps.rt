@@ -5,21 +5,14 @@ ghost use Rattle.outer_world.specs.Told.{Grows};
 ghost use Rattle.fire_tool.specs.ErrorLines.{ending_line, ending_status, IsEndStatus};
 ghost use Rattle.fire_tool.specs.Pieces.{PieceTaken};
 ghost use Rattle.fire_tool.specs.Runs.{IsAnswer, Answered, Stopped, stop_line, stop_status};
-ghost use Rattle.fire_tool.specs.Streams.{flow_at, sink_at};
+ghost use Rattle.command_io.specs.Streams.{flow_at, sink_at};
 ghost use Rattle.fire_tool.specs.Telling.{IsUnderWay, ending_seen};
 
 use crate::error_lines::{line_of_end, status_of_end};
 use crate::progress::{Progress, RunEnd};
+use command_io::Ended;
 use outer_world::{Failed, Sink, Source, TEXT_BYTES_MAX, write_whole};
 use std::alloc::Global;
-
-/// How a run ended that has an answer.
-#[derive(Drop)]
-pub struct Ended {
-    /// The line that names what ended the text, if anything did.
-    pub line: Vec<u8>,
-    pub status: u8,
-}
 
 /// Why a run has no answer.
 #[derive(Clone, Copy, PartialEq, Eq, Debug)]

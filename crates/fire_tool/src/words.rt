@@ -2,9 +2,19 @@
 
 ghost use Rattle.std.specs.Prelude.{◌≡◌, map};
 ghost use Rattle.std.specs.Option.{option_copied};
-ghost use Rattle.fire_tool.specs.Words.{cursor_value as cursor_value_of, first_after as first_after_name, first_in as first_in_word, plain_value as plain_value_of, steps_first as steps_first_of, value_after as value_after_name, value_in as value_in_word};
+ghost use Rattle.fire_tool.specs.Words.{cursor_value as cursor_value_of, first_after as first_after_name, first_in as first_in_word, plain_value as plain_value_of, names_check, steps_first as steps_first_of, value_after as value_after_name, value_in as value_in_word};
 
 use block_record::read_number;
+
+/// Whether the words are `check` alone.
+pub fn is_check(words: &[Vec<u8>]) -> bool
+    ensures { result ≡ names_check (map (λ w. w.items) words.now) }
+{
+    match words {
+        [command] => command.as_slice() == b"check".as_slice(),
+        _ => false,
+    }
+}
 
 /// The first number that is taken, where the words are `steps` alone or with the option `--first`.
 pub fn steps_first(words: &[Vec<u8>]) -> Option<u64>

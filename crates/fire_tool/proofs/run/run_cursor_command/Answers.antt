@@ -1,5 +1,5 @@
 use Rattle.std.proofs.Common.{◌≡◌}
-use Rattle.fire_tool.specs.Streams.{sink_at}
+use Rattle.command_io.specs.Streams.{sink_at}
 use Rattle.fire_tool.proofs.CursorFacts.{answered_line, utf8_read}
 use Rattle.fire_tool.proofs.run.run_cursor_command.Goals as goal
 

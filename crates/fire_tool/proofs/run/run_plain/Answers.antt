@@ -1,5 +1,5 @@
 use Rattle.std.proofs.Common.{map}
-use Rattle.fire_tool.specs.Streams.{source_at}
+use Rattle.command_io.specs.Streams.{source_at}
 use Rattle.fire_tool.proofs.CursorFacts.{cursor_words}
 use Rattle.fire_tool.proofs.run.run_plain.Goals as goal
 

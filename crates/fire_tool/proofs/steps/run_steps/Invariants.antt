@@ -1,5 +1,5 @@
 use Rattle.std.proofs.Common.{◌-◌, ◌^◌}
-use Rattle.fire_tool.specs.Streams.{flow_at}
+use Rattle.command_io.specs.Streams.{flow_at}
 use Rattle.fire_tool.proofs.StepsFacts.{IsFlowing}
 use Rattle.fire_tool.proofs.steps.run_steps.Given as goal
 

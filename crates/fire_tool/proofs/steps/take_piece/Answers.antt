@@ -1,4 +1,4 @@
-use Rattle.fire_tool.specs.Streams.{sink_at}
+use Rattle.command_io.specs.Streams.{sink_at}
 use Rattle.fire_tool.proofs.StepsFacts.{piece_written, piece_begun}
 use Rattle.fire_tool.proofs.steps.take_piece.Goals as goal
 

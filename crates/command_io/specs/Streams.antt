@@ -1,8 +1,10 @@
--- The streams of a run at one moment, and what was taken of them and written to them.
+-- The streams and the shelf of a run at one moment, and what was taken of them and written to them.
 use Rattle.std.specs.Prelude.{ℕ, ◌≡◌, ◌⊎◌, List, Option}
+use Rattle.outer_world.specs.declared.shelves.Shelf.{Ghosts as ShelfGhosts}
 use Rattle.outer_world.specs.declared.traits.Sink.{Ghosts as SinkGhosts}
 use Rattle.outer_world.specs.declared.traits.Source.{Ghosts as SourceGhosts}
 use Rattle.outer_world.specs.Causes.{Rose}
+use Rattle.outer_world.specs.Files.{Files}
 use Rattle.outer_world.specs.Told.{Grows, GrowsByFront, Took}
 
 -- a source at one moment: the bytes that it has left and has given, where it tells them, and how often it has failed
@@ -14,6 +16,11 @@ pub record SourceState : Type 0 where
 -- a sink at one moment: the bytes that were written, where it tells them, and how often it has failed
 pub record SinkState : Type 0 where
   pub written : Option (List ℕ)
+  pub faults : ℕ
+
+-- a shelf at one moment: its files, where it tells them, and how often it has failed
+pub record ShelfState : Type 0 where
+  pub files : Option Files
   pub faults : ℕ
 
 -- an input and an output at one moment
@@ -38,7 +45,11 @@ source_at source input = record { left = source.left input; given = source.given
 abbrev pub sink_at : {O : Type 0} → SinkGhosts O → O → SinkState
 sink_at sink output = record { written = sink.written output; faults = sink.write_faults output }
 
--- the two together
+-- what a shelf tells of itself
+abbrev pub shelf_at : {S : Type 0} → ShelfGhosts S → S → ShelfState
+shelf_at shelf kept = record { files = shelf.files kept; faults = shelf.shelf_faults kept }
+
+-- the input and the output together
 abbrev pub flow_at : {I O : Type 0} → SourceGhosts I → SinkGhosts O → I → O → Flow
 flow_at source sink input output = record { input = source_at source input; output = sink_at sink output }
 
