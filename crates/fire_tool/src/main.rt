@@ -1,5 +1,5 @@
 //! The program: it reads the lines of a ledger node and prints the steps that its blocks bring about,
-//! and says what a cursor's text stands for.
+//! says what a cursor's text stands for, and checks the files of a shelf.
 #![tactic(auto)]
 
 mod cursor;
@@ -13,8 +13,8 @@ mod streams;
 mod tests;
 mod words;
 
-use memory_world::MemoryShelf;
-use outer_world::write_whole;
+use command_io::tell_error;
+use folder_shelf::FolderShelf;
 use run::run_plain;
 use std::alloc::{AllocError, Global};
 use std::process::ExitCode;
@@ -22,16 +22,22 @@ use std::rt::Env;
 use std::{env, io};
 use streams::{Reading, Writing};
 
+/// The folder of the shelf, in the current folder.
+const SHELF: &str = "shelf";
+
 fn main(rt: HostRuntime) -> ExitCode {
     let alloc = rt.alloc();
     let mut errors = Writing::new(rt.stderr());
     let Ok(words) = words_of(&rt, alloc) else {
-        let _ = write_whole(&mut errors, b"fire: out of memory\n");
+        tell_error(&mut errors, b"fire: out of memory\n");
         return ExitCode::from(1);
     };
     let mut input = Reading::new(rt.reader());
     let mut output = Writing::new(io::writer(&rt));
-    let mut shelf = MemoryShelf::new(alloc);
+    let Ok(mut shelf) = FolderShelf::new(rt, SHELF, 0) else {
+        tell_error(&mut errors, b"fire: out of memory\n");
+        return ExitCode::from(1);
+    };
     let status = run_plain(
         alloc,
         words.as_slice(),
