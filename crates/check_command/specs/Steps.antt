@@ -1,5 +1,5 @@
 -- The steps of the command.
-use Rattle.std.specs.Prelude.{ℕ, ◌≡◌, List, [], Result, Ok, Err, ⊤, IfOk, IfErr}
+use Rattle.std.specs.Prelude.{ℕ, ◌≡◌, List, [], Result, Err, ⊤, IfOk, IfErr}
 use Rattle.outer_world.specs.Causes.{Rose}
 use Rattle.outer_world.specs.Told.{Grows, GrowsByFront}
 use Rattle.one_block.specs.declared.faults.StoreFault.TheVariants as store

@@ -5,3 +5,6 @@ mod lines;
 mod run;
 
 pub use run::{CheckStop, run_check};
+
+#[cfg(test)]
+mod tests;

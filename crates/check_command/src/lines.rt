@@ -47,11 +47,7 @@ pub fn bad_line(alloc: Global, name: &FileName, at: u64) -> Result<Vec<u8>, Allo
 }
 
 /// The line of a file of another type than those before it.
-pub fn clash_line(
-    alloc: Global,
-    held: &TypeName,
-    offered: &TypeName,
-) -> Result<Vec<u8>, AllocError>
+pub fn clash_line(alloc: Global, held: &TypeName, offered: &TypeName) -> Result<Vec<u8>, AllocError>
     ensures { IfOk result (λ line. line.items ≡ line_of_clash held.now offered.now) }
 {
     let mut line = Vec::from_slice(alloc, b"fire: kind clash ")?;

@@ -105,7 +105,7 @@ fn answer<O: Sink, S: Shelf>(
         MatchResult result
         (λ e. CheckAnswered (S.files shelf.old) before after e.line.items e.status)
         (λ stop. CheckStopped stop (S.files shelf.old)
-            (S.shelf_faults shelf.old) (S.shelf_faults shelf.new) before after) }
+        (S.shelf_faults shelf.old) (S.shelf_faults shelf.new) before after) }
     ensures good { (numbers : Numbers) → IsGoodShelf (S.files shelf.old) numbers
         → IfOk result (λ e. (e.status ≡ 0)
         × Grows (O.written output.old) (O.written output.new) (report_text numbers)) }
