@@ -1,6 +1,6 @@
 //! Looks at small histories, with answers worked out by hand.
 
-ghost use Rattle.std.specs.Prelude.{IfSome};
+ghost use Rattle.std.specs.Prelude.{IfOk};
 ghost use Rattle.relay_look.specs.Answers.{FitsAt};
 
 use crate::answers::{Look, LookFault, Position};
@@ -8,18 +8,14 @@ use crate::cursors::misfit;
 use crate::looks::look;
 use block_record::{Block, BlockRef, Bytes, Id, into_slip};
 use chain_model::{Mode, Place, Step};
-use fork_db::{ForkDb, ForkFault, Verdict};
+use fork_db::{Batch, ForkDb, ForkFault, Verdict};
 use sha2::{Digest, Sha256};
 use std::alloc::{AllocError, Global};
-use std::process::Abort;
 use std::test::Fail;
 use step_cursor::{Cursor, MisfitField, Request, Tail};
 
 /// A block's number and id, its parent's number and id, and its lib number.
 type Fields = (u64, &'static str, u64, &'static str, u64);
-
-/// A block by number and id.
-type At = (u64, &'static str);
 
 /// Of these the final tip is b2.
 const CHAIN: &[Fields] = &[
@@ -39,39 +35,8 @@ const FORK: &[Fields] = &[
 
 const RUN: u64 = 700;
 
-/// Where a client stands.
-#[derive(Clone, Copy)]
-enum Stands {
-    /// At its start, to get blocks from this number on.
-    Start(u64),
-    /// At its start, with the cursor of an undo: its block, the end and the lib.
-    Undo(At, At, At),
-    /// At its start, with the cursor of a new block.
-    New(At, At, At),
-    /// The same of b4, which was the end when a1 was the last final block, with a tail.
-    Seen(u64, u64),
-    /// At an end and a lib.
-    At(At, At),
-}
-
-/// What a look is answered.
-#[derive(Clone, Copy, PartialEq, Eq, Debug)]
-enum Answer {
-    /// The length of the history, the number of the end where the batch begins, and its undo, final,
-    /// newfinal and new steps.
-    Steps(u64, u64, (u64, u64, u64, u64)),
-    NotYet(u64),
-    Done(u64),
-    Closing(u64),
-    /// The first byte of the id, and its number as the second.
-    Unknown(u8, u8),
-    Misfit(MisfitField),
-    StopBelow(u64),
-    Mem,
-}
-
-/// A history, whether it is closed, where the client stands, its stop, and the answer.
-type Row = (&'static [Fields], bool, Stands, Option<u64>, Answer);
+/// A block by number and id.
+type At = (u64, &'static str);
 
 const A1: At = (1, "a1");
 
@@ -87,64 +52,101 @@ const C3: At = (3, "c3");
 
 const ZZ: At = (9, "zz");
 
+/// The block of a cursor, its end and its lib, and its tail.
+type Parts = (At, At, At, Option<Tail>);
+
+const SEEN_5: Option<Tail> = Some(Tail { run: RUN, seen: 5 });
+
+const SEEN_6: Option<Tail> = Some(Tail { run: RUN, seen: 6 });
+
+const OTHER_RUN: Option<Tail> = Some(Tail { run: 9, seen: 6 });
+
+/// Where a client stands.
+enum Stands {
+    /// At its start, to get blocks from this number on.
+    Start(u64),
+    /// At its start, with the cursor of a step.
+    Cursor(Step, Parts),
+    /// At an end and a lib.
+    At(At, At),
+}
+
+/// What a look is answered.
+enum Answer {
+    /// The length of the history, the number of the end where the batch begins, and its undo, final,
+    /// newfinal and new steps.
+    Steps(u64, u64, (u64, u64, u64, u64)),
+    NotYet(u64),
+    Done(u64),
+    Closing(u64),
+    Unknown(&'static str),
+    Misfit(MisfitField),
+    StopBelow(u64),
+}
+
 use Answer::{Closing, Done, Misfit, NotYet, Steps, StopBelow, Unknown};
+use Stands::{At as Stand, Cursor as By, Start};
+
+/// A history, whether it is closed, where the client stands, its stop, and the answer.
+type Row = (&'static [Fields], bool, Stands, Option<u64>, Answer);
 
 const ROWS: &[Row] = &[
-    (&[], false, Stands::Start(0), None, NotYet(0)),
-    (&[], true, Stands::Start(0), None, Closing(0)),
+    (&[], false, Start(0), None, NotYet(0)),
+    (&[], true, Start(0), None, Closing(0)),
+    // The first of a cursor's block, end and lib that is not known, and the first that does not fit.
     (
         CHAIN,
         false,
-        Stands::New(ZZ, ZZ, A1),
+        By(Step::New, (ZZ, ZZ, A1, None)),
         None,
-        Unknown(b'z', b'z'),
+        Unknown("zz"),
     ),
     (
         CHAIN,
         false,
-        Stands::New(C3, C3, ZZ),
+        By(Step::New, (C3, C3, ZZ, None)),
         None,
-        Unknown(b'z', b'z'),
+        Unknown("zz"),
     ),
     (
         CHAIN,
         false,
-        Stands::New(B4, B4, C2),
+        By(Step::New, (B4, B4, C2, None)),
         None,
-        Unknown(b'b', b'4'),
+        Unknown("b4"),
     ),
     (
         FORK,
         false,
-        Stands::New(B4, B4, C2),
+        By(Step::New, (B4, B4, C2, None)),
         None,
         Misfit(MisfitField::Lib),
     ),
     (
         FORK,
         false,
-        Stands::New(B4, B4, B2),
+        By(Step::New, (B4, B4, B2, None)),
         None,
         Misfit(MisfitField::Lib),
     ),
     (
         FORK,
         false,
-        Stands::New(B4, B3, A1),
+        By(Step::New, (B4, B3, A1, None)),
         None,
         Misfit(MisfitField::Step),
     ),
     (
         FORK,
         false,
-        Stands::New((5, "b4"), B4, A1),
+        By(Step::New, ((5, "b4"), B4, A1, None)),
         None,
         Misfit(MisfitField::Block),
     ),
     (
         FORK,
         false,
-        Stands::New(B4, (5, "b4"), A1),
+        By(Step::New, (B4, (5, "b4"), A1, None)),
         None,
         Misfit(MisfitField::End),
     ),
@@ -152,87 +154,123 @@ const ROWS: &[Row] = &[
     (
         FORK,
         false,
-        Stands::Undo(B4, B3, A1),
+        By(Step::Undo, (B4, B3, A1, None)),
         None,
         Steps(5, 3, (2, 0, 1, 0)),
     ),
     (
         FORK,
         false,
-        Stands::Undo(B4, B2, A1),
+        By(Step::Undo, (B4, B2, A1, None)),
         None,
         Misfit(MisfitField::Step),
     ),
     // More was seen of this run than there is.
-    (FORK, false, Stands::Seen(RUN, 6), None, NotYet(5)),
+    (
+        FORK,
+        false,
+        By(Step::New, (B4, B4, A1, SEEN_6)),
+        None,
+        NotYet(5),
+    ),
     (
         FORK,
         true,
-        Stands::Seen(RUN, 6),
+        By(Step::New, (B4, B4, A1, SEEN_6)),
         None,
         Misfit(MisfitField::Seen),
     ),
     (
         FORK,
         false,
-        Stands::Seen(RUN, 5),
+        By(Step::New, (B4, B4, A1, SEEN_5)),
         None,
         Steps(5, 4, (3, 0, 1, 0)),
     ),
     (
         FORK,
         false,
-        Stands::Seen(9, 6),
+        By(Step::New, (B4, B4, A1, OTHER_RUN)),
         None,
         Steps(5, 4, (3, 0, 1, 0)),
     ),
-    (CHAIN, false, Stands::New(C3, C3, A1), Some(1), StopBelow(3)),
     (
         CHAIN,
         false,
-        Stands::Start(0),
-        Some(2),
-        Steps(3, 0, (0, 0, 2, 0)),
+        By(Step::New, (C3, C3, A1, None)),
+        Some(1),
+        StopBelow(3),
     ),
-    (
-        FORK,
-        false,
-        Stands::Start(3),
-        None,
-        Steps(5, 2, (0, 0, 0, 0)),
-    ),
-    (CHAIN, false, Stands::At(B2, B2), Some(2), Done(3)),
+    (CHAIN, false, Start(0), Some(2), Steps(3, 0, (0, 0, 2, 0))),
+    (FORK, false, Start(3), None, Steps(5, 2, (0, 0, 0, 0))),
+    (CHAIN, false, Stand(B2, B2), Some(2), Done(3)),
     (
         CHAIN,
         false,
-        Stands::At(B2, A1),
+        Stand(B2, A1),
         Some(2),
         Steps(3, 2, (0, 1, 0, 0)),
     ),
-    (CHAIN, false, Stands::At(C3, B2), Some(3), NotYet(3)),
-    (CHAIN, false, Stands::At(C3, B2), None, NotYet(3)),
-    (CHAIN, true, Stands::At(C3, B2), None, Closing(3)),
-    (CHAIN, true, Stands::At(B2, B2), Some(2), Done(3)),
+    (CHAIN, false, Stand(C3, B2), Some(3), NotYet(3)),
+    (CHAIN, false, Stand(C3, B2), None, NotYet(3)),
+    (CHAIN, true, Stand(C3, B2), None, Closing(3)),
+    (CHAIN, true, Stand(B2, B2), Some(2), Done(3)),
 ];
 
 #[test]
 fn looks_are_answered_as_by_hand(rt: HostRuntime) -> Result<(), Fail> {
-    for (i, (rows, is_closed, stands, stop, wanted)) in ROWS.iter().enumerate() {
-        let db = db_of(&rt, rt.alloc(), rows)?;
-        let found = answer_on(&rt, rt.alloc(), &db, *is_closed, *stands, *stop)?;
-        assert!(rt; found == *wanted, "row {i}");
+    for (i, row) in ROWS.iter().enumerate() {
+        assert!(rt; is_answered(rt.alloc(), row)?, "row {i}");
     }
     Ok(())
 }
 
-fn answer_on(
-    rt: &impl Abort,
-    alloc: Global,
-    db: &ForkDb,
-    is_closed: bool,
-    stands: Stands,
-    stop: Option<u64>,
-) -> Result<Answer, AllocError> {
+/// Whether a look on the row's history is answered so.
+fn is_answered(alloc: Global, row: &Row) -> Result<bool, ForkFault> {
+    let (blocks, is_closed, stands, stop, wanted) = row;
+    let db = db_of(alloc, blocks)?;
+    let request = request_of(alloc, stands, *stop)?;
+    let position = position_of(alloc, &db, stands)?;
+    match look(&db, RUN, *is_closed, &request, &position) {
+        Ok(found) => Ok(is_look(&found, wanted)),
+        Err(fault) => Ok(is_refusal(&fault, wanted)),
+    }
+}
+
+fn is_look(found: &Look, wanted: &Answer) -> bool {
+    match (found, wanted) {
+        (Look::Batch(batch), Steps(seen, end, counts)) => {
+            batch.seen == *seen && end_of(batch) == *end && counts_of(batch) == *counts
+        }
+        (Look::NotYet { len }, NotYet(wanted)) => len == wanted,
+        (Look::Done { len }, Done(wanted)) => len == wanted,
+        (Look::Closing { len }, Closing(wanted)) => len == wanted,
+        _ => false,
+    }
+}
+
+fn counts_of(batch: &Batch) -> (u64, u64, u64, u64) {
+    (batch.undos, batch.finals, batch.newfinals, batch.news)
+}
+
+/// The number of the end where a batch begins, 0 where there is none.
+fn end_of(batch: &Batch) -> u64 {
+    match &batch.place.end {
+        Some(end) => end.num,
+        None => 0,
+    }
+}
+
+fn is_refusal(fault: &LookFault, wanted: &Answer) -> bool {
+    match (fault, wanted) {
+        (LookFault::Unknown { id }, Unknown(text)) => id.as_bytes() == text.as_bytes(),
+        (LookFault::Misfit { field }, Misfit(wanted)) => field == wanted,
+        (LookFault::StopBelow { end }, StopBelow(wanted)) => end == wanted,
+        _ => false,
+    }
+}
+
+fn request_of(alloc: Global, stands: &Stands, stop: Option<u64>) -> Result<Request, AllocError> {
     let mut request = Request {
         start: 0,
         stop,
@@ -240,121 +278,97 @@ fn answer_on(
         cursor: None,
     };
     match stands {
-        Stands::Start(start) => request.start = start,
-        Stands::Undo(block, end, lib) => {
-            request.cursor = Some(cursor_of(rt, alloc, Step::Undo, (block, end, lib), None)?);
-        }
-        Stands::New(block, end, lib) => {
-            request.cursor = Some(cursor_of(rt, alloc, Step::New, (block, end, lib), None)?);
-        }
-        Stands::Seen(run, seen) => {
-            let tail = Some(Tail { run, seen });
-            request.cursor = Some(cursor_of(rt, alloc, Step::New, (B4, B4, A1), tail)?);
-        }
-        Stands::At(end, lib) => {
-            let cursor = cursor_of(rt, alloc, Step::New, (end, end, lib), None)?;
-            let position = position_after(db, cursor).expect(rt, "a place that fits");
-            let found = look(db, RUN, is_closed, &request, &position);
-            return Ok(answer_of(&found));
-        }
+        Start(start) => request.start = *start,
+        By(step, parts) => request.cursor = cursor_of(alloc, *step, *parts)?,
+        Stand(..) => {}
     }
-    let found = look(db, RUN, is_closed, &request, &Position::Start);
-    Ok(answer_of(&found))
+    Ok(request)
 }
 
-/// The position after a step, where its cursor fits.
-fn position_after(db: &ForkDb, cursor: Cursor) -> Option<Position>
-    ensures { IfSome result (λ p. FitsAt db.now.history p) }
+/// The position at an end and a lib that fit, and else the start.
+fn position_of(alloc: Global, db: &ForkDb, stands: &Stands) -> Result<Position, AllocError>
+    ensures { IfOk result (λ p. FitsAt db.now.history p) }
+{
+    let Stand(end, lib) = stands else {
+        return Ok(Position::Start);
+    };
+    match cursor_of(alloc, Step::New, (*end, *end, *lib, None))? {
+        Some(cursor) => Ok(position_after(db, cursor)),
+        None => Ok(Position::Start),
+    }
+}
+
+/// The position after a step, where its cursor fits, and else the start.
+fn position_after(db: &ForkDb, cursor: Cursor) -> Position
+    ensures { FitsAt db.now.history result }
 {
     if misfit(db, RUN, &cursor).is_some() {
-        return None;
+        return Position::Start;
     }
-    Some(Position::At(cursor.place))
+    Position::At(cursor.place)
 }
 
-fn answer_of(found: &Result<Look, LookFault>) -> Answer {
-    match found {
-        Ok(Look::Batch(batch)) => Steps(
-            batch.seen,
-            batch.place.end.as_ref().map_or(0, |block| block.num),
-            (batch.undos, batch.finals, batch.newfinals, batch.news),
-        ),
-        Ok(Look::NotYet { len }) => NotYet(*len),
-        Ok(Look::Done { len }) => Done(*len),
-        Ok(Look::Closing { len }) => Closing(*len),
-        Err(fault) => refusal_of(fault),
-    }
-}
-
-fn refusal_of(fault: &LookFault) -> Answer {
-    match fault {
-        LookFault::Unknown { id } => match id.as_bytes() {
-            [first, second] => Unknown(*first, *second),
-            _ => Answer::Mem,
-        },
-        LookFault::Misfit { field } => Misfit(*field),
-        LookFault::StopBelow { end } => StopBelow(*end),
-        LookFault::Mem => Answer::Mem,
+fn cursor_of(
+    alloc: Global,
+    step: Step,
+    (block, end, lib, tail): Parts,
+) -> Result<Option<Cursor>, AllocError> {
+    let end = reference_of(alloc, end)?;
+    let lib = reference_of(alloc, lib)?;
+    match reference_of(alloc, block)? {
+        Some(block) => Ok(Some(Cursor {
+            step,
+            block,
+            place: Place { end, lib },
+            tail,
+        })),
+        None => Ok(None),
     }
 }
 
-/// A database of these blocks.
-fn db_of(rt: &impl Abort, alloc: Global, rows: &[Fields]) -> Result<ForkDb, ForkFault> {
+fn reference_of(alloc: Global, (num, text): At) -> Result<Option<BlockRef>, AllocError> {
+    match Id::new(alloc, text.as_bytes())? {
+        Some(id) => Ok(Some(BlockRef { num, id })),
+        None => Ok(None),
+    }
+}
+
+/// A database of the blocks that fit.
+fn db_of(alloc: Global, rows: &[Fields]) -> Result<ForkDb, ForkFault> {
     let mut db = ForkDb::new(alloc, 100)?;
     for fields in rows {
-        let block = block_of(rt, alloc, *fields)?;
-        let fits = matches!(db.can_append(&block), Verdict::Fits);
-        assert!(rt; fits);
-        let _ = db.append(into_slip(block), None)?;
+        if let Some(block) = block_of(alloc, *fields)? {
+            append(&mut db, block)?;
+        }
     }
     Ok(db)
 }
 
+fn append(db: &mut ForkDb, block: Block) -> Result<(), ForkFault> {
+    if db.can_append(&block) == Verdict::Fits {
+        db.append(into_slip(block), None)?;
+    }
+    Ok(())
+}
+
 fn block_of(
-    rt: &impl Abort,
     alloc: Global,
     (num, id, parent_num, parent_id, lib_num): Fields,
-) -> Result<Block, AllocError> {
-    assert!(rt; parent_num < num);
-    Ok(Block {
-        num,
-        id: id_of(rt, alloc, id)?,
-        parent_num,
-        parent_id: id_of(rt, alloc, parent_id)?,
-        lib_num,
-        time: 0,
-        digest: Sha256::digest(&[]),
-        payload: Bytes::new(alloc, &[])?,
-    })
-}
-
-fn id_of(rt: &impl Abort, alloc: Global, text: &str) -> Result<Id, AllocError> {
-    let id = Id::new(alloc, text.as_bytes())?;
-    Ok(id.expect(rt, "an id"))
-}
-
-fn reference_of(rt: &impl Abort, alloc: Global, (num, text): At) -> Result<BlockRef, AllocError> {
-    let id = id_of(rt, alloc, text)?;
-    Ok(BlockRef { num, id })
-}
-
-fn cursor_of(
-    rt: &impl Abort,
-    alloc: Global,
-    step: Step,
-    (block, end, lib): (At, At, At),
-    tail: Option<Tail>,
-) -> Result<Cursor, AllocError> {
-    let block = reference_of(rt, alloc, block)?;
-    let end = reference_of(rt, alloc, end)?;
-    let lib = reference_of(rt, alloc, lib)?;
-    Ok(Cursor {
-        step,
-        block,
-        place: Place {
-            end: Some(end),
-            lib: Some(lib),
-        },
-        tail,
-    })
+) -> Result<Option<Block>, AllocError> {
+    let id = Id::new(alloc, id.as_bytes())?;
+    let parent_id = Id::new(alloc, parent_id.as_bytes())?;
+    let payload = Bytes::new(alloc, &[])?;
+    match (id, parent_id) {
+        (Some(id), Some(parent_id)) if parent_num < num => Ok(Some(Block {
+            num,
+            id,
+            parent_num,
+            parent_id,
+            lib_num,
+            time: 0,
+            digest: Sha256::digest(&[]),
+            payload,
+        })),
+        _ => Ok(None),
+    }
 }
