@@ -1,5 +1,5 @@
 -- The folder of merged blocks.
-use Rattle.std.specs.Prelude.{ℕ, ◌≡◌, ◌+◌, ◌⊎◌, List, [], ◌∷◌, ◌++◌, length, map, reverse, codes, Option, None, Some, ⊤, Result, Ok, Err, IsPermutation, IsSorted}
+use Rattle.std.specs.Prelude.{ℕ, ◌≡◌, ◌+◌, ◌⊎◌, List, [], ◌∷◌, ◌++◌, length, map, reverse, Option, None, Some, ⊤, Result, Ok, Err, IsPermutation, IsSorted}
 use Rattle.std.specs.Global.{Vec}
 use Rattle.std.specs.declared.cmp.Ordering.{Ordering}
 use Rattle.std.specs.Ordering.{nat_cmp, ordering_then}
