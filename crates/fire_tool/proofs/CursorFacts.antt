@@ -1,13 +1,13 @@
 -- Runs of the command `cursor`.
-use Rattle.std.proofs.Common.{◌≡◌, ℕ, Bool, true, false, List, Option, None, Some, Result, Ok, Err, subst, sym, inl, inr, arith}
+use Rattle.std.proofs.Common.{◌≡◌, ℕ, Bool, true, false, List, Some, Result, Ok, Err, subst, sym, inl, inr, arith}
 use Rattle.std.specs.Result.{is_err, MatchResult}
 use Rattle.std.specs.Str.{IsUtf8}
 use Rattle.outer_world.proofs.TakenFacts.{took_nothing}
 use Rattle.check_command.specs.Check.{CheckRun}
 use Rattle.fire_tool.specs.CursorCommand.{CursorAnswered, CursorRun}
-use Rattle.fire_tool.specs.Program.{Runs, RunsCommand, RunsNamed, RunsPlain}
+use Rattle.fire_tool.specs.Program.{RunsCommand, RunsNamed, RunsPlain}
 use Rattle.command_io.specs.Streams.{ShelfState, SinkState, SourceState, Streams, ToldLine, streams_of}
-use Rattle.fire_tool.specs.Words.{cursor_value, names_check, steps_first}
+use Rattle.fire_tool.specs.Words.{cursor_value, names_check}
 
 -- a text that was read as UTF-8 is UTF-8
 pub utf8_read : {T E : Type 0} (text : List ℕ) (r : Result T E) (A : T → Type 0) (B : E → Type 0) (bad : Bool) → bad ≡ is_err r → bad ≡ false → MatchResult r (λ s. A s × IsUtf8 text) B → IsUtf8 text
@@ -49,13 +49,6 @@ pub cursor_words : (words : List (List ℕ)) (text : List ℕ) (shelf shelf' : S
     → CursorRun text before after status → RunsPlain words shelf shelf' before after status
 cursor_words words text shelf shelf' before after status other named run =
     subst (λ (check : Bool). RunsNamed check words shelf shelf' before after status) (sym other) (subst (λ value. RunsCommand value words before after status) named run)
-
--- the same of `steps`, and of words that name no command
-pub steps_words : (words : List (List ℕ)) (first : Option ℕ) (shelf shelf' : ShelfState) (before after : Streams) (status : ℕ) → names_check words ≡ false → None ≡ cursor_value words → first ≡ steps_first words
-    → Runs first before after status → RunsPlain words shelf shelf' before after status
-steps_words words first shelf shelf' before after status other none named run =
-    subst (λ (check : Bool). RunsNamed check words shelf shelf' before after status) (sym other)
-    (subst (λ value. RunsCommand value words before after status) none (subst (λ (o : Option ℕ). Runs o before after status) named run))
 
 -- the same of `check`
 pub check_words : (words : List (List ℕ)) (shelf shelf' : ShelfState) (before after : Streams) (status : ℕ) → names_check words ≡ true → CheckRun shelf shelf' before after status → RunsPlain words shelf shelf' before after status
