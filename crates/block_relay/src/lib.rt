@@ -9,8 +9,6 @@ mod marks;
 mod memory;
 mod notes;
 mod relay;
-#[cfg(test)]
-mod tests;
 
 pub use answers::KindFault;
 pub use block_intake::{Conflict, ConflictKind, OfferFault, Offered};

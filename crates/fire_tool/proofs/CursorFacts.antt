@@ -2,7 +2,7 @@
 use Rattle.std.proofs.Common.{◌≡◌, ℕ, Bool, true, false, List, Some, Result, Ok, Err, subst, sym, inl, inr, arith}
 use Rattle.std.specs.Result.{is_err, MatchResult}
 use Rattle.std.specs.Str.{IsUtf8}
-use Rattle.outer_world.proofs.TakenFacts.{took_nothing}
+use Rattle.outer_world.proofs.public.TakenFacts.{took_nothing}
 use Rattle.check_command.specs.Check.{CheckRun}
 use Rattle.fire_tool.specs.CursorCommand.{CursorAnswered, CursorRun}
 use Rattle.fire_tool.specs.Program.{RunsCommand, RunsNamed, RunsPlain}

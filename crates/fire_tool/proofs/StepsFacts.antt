@@ -6,8 +6,8 @@ use Rattle.relay_model.specs.Worlds.{World}
 use Rattle.chain_model.specs.declared.places.Place.{Place}
 use Rattle.outer_world.specs.Causes.{Rose}
 use Rattle.outer_world.specs.Told.{Gains, Grows, GrowsByFront, Took}
-use Rattle.outer_world.proofs.Fronts.{grows_twice}
-use Rattle.outer_world.proofs.TakenFacts.{gains_none, took_more}
+use Rattle.outer_world.proofs.public.Fronts.{grows_twice}
+use Rattle.outer_world.proofs.public.TakenFacts.{gains_none, took_more}
 use Rattle.fire_lines.specs.Reader.{ReaderState}
 use Rattle.step_laws.proofs.public.ScratchFacts.{step_text_from_scratch}
 use Rattle.fire_tool.specs.declared.progress.RunEnd.{RunEnd}

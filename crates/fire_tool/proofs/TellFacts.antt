@@ -30,8 +30,8 @@ use Rattle.block_intake.specs.declared.answers.OfferFault.{OfferFault}
 use Rattle.block_intake.specs.declared.answers.OfferFault.TheVariants as fault
 use Rattle.block_intake.specs.Answers.{IsAnswer, is_mem}
 use Rattle.block_intake.specs.Intakes.{IsAlike, IsUnchanged, TakenIn, unnoted, world_taken}
-use Rattle.block_intake.proofs.AlikeFacts.{offered_alike}
-use Rattle.block_intake.proofs.IntakeFacts.{unchanged_world}
+use Rattle.block_intake.proofs.public.AlikeFacts.{offered_alike}
+use Rattle.block_intake.proofs.public.IntakeFacts.{unchanged_world}
 use Rattle.step_text.specs.declared.refusals.Refusal.{Refusal}
 use Rattle.step_text.specs.StepText.{Told, place_by, prepend, refusal_of, step_line, step_lines, steps_by, tell}
 use Rattle.step_text.specs.Taken.{IsTaken, Tells}

@@ -2,7 +2,7 @@ use Rattle.std.proofs.Common.{Err, ap, refl, sym, ◌∙◌}
 use Rattle.relay_model.specs.Verdicts as verdict
 use Rattle.block_intake.specs.Intakes.{world_taken}
 use Rattle.block_intake.specs.Judged.{verdict_of_judged}
-use Rattle.block_intake.proofs.IntakeFacts.{stays_offered}
+use Rattle.block_intake.proofs.public.IntakeFacts.{stays_offered}
 use Rattle.block_intake.proofs.intake.Intake.take.Goals as goal
 
 pub returns-in-WaitFull : goal.returns-in-WaitFull

@@ -11,8 +11,8 @@ use Rattle.block_intake.specs.declared.answers.Offered.TheVariants as answer
 use Rattle.block_intake.specs.declared.answers.OfferFault.{OfferFault}
 use Rattle.wait_room.specs.Rooms.{Room}
 use Rattle.block_intake.specs.Intakes.{unnoted, world_taken}
-use Rattle.block_intake.proofs.AlikeFacts.{answer_alike}
-use Rattle.block_intake.proofs.IntakeFacts.{unchanged_held, unchanged_world}
+use Rattle.block_intake.proofs.public.AlikeFacts.{answer_alike}
+use Rattle.block_intake.proofs.public.IntakeFacts.{unchanged_held, unchanged_world}
 use Rattle.block_relay.specs.declared.marks.Mark.TheVariants as mark
 use Rattle.block_relay.specs.Chronicle.{Told, has_kind_mark, kind_mark, limits_told, told_with, world_told}
 use Rattle.block_relay.specs.Done.{IsDone}

@@ -22,7 +22,7 @@ use Rattle.relay_model.specs.Orders.{root_or, root_of, link_time, position, link
 use Rattle.relay_model.specs.Soundness.{IsDistinct}
 use Rattle.relay_laws.specs.Laws.{MatchesTip, TipFromScratch}
 use Rattle.relay_model.specs.Runs.{empty_world, run, taken, received}
-use Rattle.relay_laws.proofs.RunSteps.{run_of, run_first, once_distinct}
+use Rattle.relay_laws.proofs.public.RunSteps.{run_of, run_first, once_distinct}
 use Rattle.chain_model.specs.Steps.{holds_tip}
 use Rattle.relay_laws.proofs.RunFacts.{last_of, Where, IsRun, last_some}
 use Rattle.relay_laws.proofs.Times.{IsParent, root_time, link_up, above_root, IsAboveRoot}
