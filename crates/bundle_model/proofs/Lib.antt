@@ -1,0 +1,2 @@
+mod TableFacts
+pub mod public

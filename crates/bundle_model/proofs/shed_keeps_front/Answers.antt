@@ -1,0 +1,5 @@
+use Rattle.bundle_model.proofs.public.MergeFacts.{shed_keeps_front}
+use Rattle.bundle_model.proofs.shed_keeps_front.Goals as goal
+
+pub returns : goal.returns
+returns c = shed_keeps_front
