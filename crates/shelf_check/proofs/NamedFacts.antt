@@ -1,5 +1,5 @@
 -- A file that is refused has the name of the layout, a name that the shelf listed, or one of a file of merged blocks.
-use Rattle.std.proofs.Common.{arith, ◌≡◌, ◌⊎◌, ℕ, suc, List, [], ◌∷◌, ◌++◌, map, Option, Some, Result, Ok, Err, IfErr, inl, inr, sym, ap, ◌∙◌}
+use Rattle.std.proofs.Common.{arith, ◌≡◌, ◌⊎◌, ℕ, suc, List, [], ◌∷◌, ◌++◌, map, Option, Some, Result, Ok, Err, IfErr, inl, inr, sym, ap, subst, ◌∙◌}
 use Rattle.std.specs.Prelude.{All}
 use Rattle.std.proofs.lemmas.List.Elements.{All-nil, All-cons}
 use Rattle.std.proofs.lemmas.List.Sorted.{All-permutation}
@@ -18,7 +18,7 @@ use Rattle.shelf_check.specs.Folders.{IsFirstIn as IsFirstInFolder}
 use Rattle.shelf_check.specs.Merged.{Entry, IsOtherName, IsFirstBased, entries_of}
 use Rattle.shelf_check.specs.Merged.{IsFirstIn as IsFirstInMerged}
 use Rattle.shelf_check.specs.Refusals.{Refused}
-use Rattle.shelf_check.specs.Shelf.{IsFirstFault, CheckAnswers, IsListed, IsKnownName, IsKnownRefusal}
+use Rattle.shelf_check.specs.Shelf.{IsFirstFault, CheckAnswers, IsKnownName, IsKnownRefusal}
 
 abbrev HasBase : ℕ → Entry → Type 0
 HasBase size e = base_in size e.1 ≡ Some e.0
