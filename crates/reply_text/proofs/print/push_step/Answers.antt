@@ -1,4 +1,4 @@
-use Rattle.std.proofs.Common.{◌≡◌, List, [], ◌∷◌, ◌++◌, ap, ◌∙◌}
+use Rattle.std.proofs.Common.{List, [], ◌∷◌, ◌++◌, ap, ◌∙◌}
 use Rattle.std.specs.Prelude.{codes}
 use Rattle.std.specs.Fmt.{decimal}
 use Rattle.std.specs.List.{concat}
@@ -16,9 +16,9 @@ returns-clause-ok c =
     c.in_ok-push_parts.ensures.ok ∙ ap (λ (l : List Part). old ++ parts_text l) c.as_slice.ensures
     ∙ (λ i. old
     ++ concat (
-      codes "{\"step\":\"" ∷ c.word.ensures i ∷ codes "\",\"num\":" ∷ decimal b.num ∷ codes ",\"id\":\"" ∷ c.as_bytes.ensures.text i
-      ∷ codes "\",\"parent_num\":" ∷ decimal b.parent_num ∷ codes ",\"parent_id\":\"" ∷ c.as_bytes-2.ensures.text i
-      ∷ codes "\",\"lib_num\":" ∷ decimal b.lib_num ∷ codes ",\"time\":" ∷ decimal b.time
-      ∷ codes ",\"payload\":\"" ∷ encode_of standard (c.as_bytes-3.ensures i) ∷ codes "\",\"digest\":\"" ∷ encode_lower b.digest
-      ∷ codes "\",\"cursor\":\"" ∷ []
+    codes "{\"step\":\"" ∷ c.word.ensures i ∷ codes "\",\"num\":" ∷ decimal b.num ∷ codes ",\"id\":\"" ∷ c.as_bytes.ensures.text i
+    ∷ codes "\",\"parent_num\":" ∷ decimal b.parent_num ∷ codes ",\"parent_id\":\"" ∷ c.as_bytes-2.ensures.text i
+    ∷ codes "\",\"lib_num\":" ∷ decimal b.lib_num ∷ codes ",\"time\":" ∷ decimal b.time
+    ∷ codes ",\"payload\":\"" ∷ encode_of standard (c.as_bytes-3.ensures i) ∷ codes "\",\"digest\":\"" ∷ encode_lower b.digest
+    ∷ codes "\",\"cursor\":\"" ∷ []
     ))
