@@ -22,7 +22,6 @@ use Rattle.reply_text.specs.Replies.{Reply, Open, reply_text}
 use Rattle.reply_text.specs.Values.{IsValue}
 use Rattle.session_model.specs.Progress.{OpenBatch, Progress, Sends, opening_reply, idle_head, after_look, look_replies, after_step, step_replies}
 use Rattle.session_model.specs.Standing.{HasWritten}
-use Rattle.session_model.specs.Laws.{IsAnswered, IsNextStep}
 use Rattle.session_model.proofs.public.Sent.{session_stays, look_goes_on, step_goes_on}
 use Rattle.join_source.specs.declared.step.StepOut.{StepOut}
 use Rattle.session_model.specs.Told.{told}

@@ -1,14 +1,14 @@
 -- What a session has sent over a history, and what it may be given next.
-use Rattle.std.specs.Prelude.{ℕ, ◌≡◌, List, [], ◌++◌, Option, None, Some}
+use Rattle.std.specs.Prelude.{ℕ, List, [], ◌++◌, Option, None, Some}
 use Rattle.block_record.specs.declared.blocks.Slip.{Slip}
 use Rattle.chain_model.specs.Ancestry.{IsHistory}
 use Rattle.chain_model.specs.Finality.{ClaimsAgree}
 use Rattle.chain_laws.specs.Oldest.{oldest}
 use Rattle.step_cursor.specs.declared.cursor.Request.{Request}
 use Rattle.fork_db.specs.declared.batches.Batch.{Batch}
-use Rattle.fork_db.specs.Batches.{IsGiven, step_total}
+use Rattle.fork_db.specs.Batches.{IsGiven}
 use Rattle.relay_look.specs.Answers.{FitsAt}
-use Rattle.session_model.specs.Progress.{OpenBatch, Stage, Waits, Sends, IsOver, Progress}
+use Rattle.session_model.specs.Progress.{Progress}
 use Rattle.session_model.specs.Standing.{HasWritten}
 use Rattle.client_stream.specs.declared.session.Need.{Need}
 use Rattle.client_stream.specs.declared.session.Need.TheVariants as need
