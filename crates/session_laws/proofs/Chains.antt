@@ -8,10 +8,9 @@ use Rattle.chain_model.specs.declared.places.Mode.{Mode}
 use Rattle.chain_model.specs.declared.places.Place.{Place}
 use Rattle.chain_model.specs.Places.{opening}
 use Rattle.chain_laws.specs.Oldest.{oldest}
-use Rattle.resume_laws.specs.Sessions.{Line, StepLine, HeadLine, Session, IsSession, IsChain, FitsFirst, AreOnward, AreCut, BeginsAt, Rises, received, chain_lines, ends_in_step, line_len, place_of, seen_of, step_lens}
+use Rattle.resume_laws.specs.Sessions.{Line, Session, IsSession, IsChain, FitsFirst, AreOnward, AreCut, BeginsAt, Rises, received, chain_lines, ends_in_step, line_len, place_of, seen_of, step_lens}
 use Rattle.resume_laws.specs.Laws.{first_len, opens_at, lines_of, Resumption, NeverOlder}
 use Rattle.step_cursor.specs.declared.cursor.Cursor.{Cursor}
-use Rattle.step_cursor.specs.declared.cursor.Tail.{Tail}
 use Rattle.step_cursor.specs.declared.cursor.Request.{Request}
 use Rattle.reply_text.specs.Lines.{cursor_after}
 use Rattle.reply_text.specs.Replies.{Reply, Open, StepOf, Head, End, Error}
@@ -20,7 +19,7 @@ use Rattle.session_model.specs.Told.{told}
 use Rattle.session_model.specs.Transcript.{begins_at, first_place}
 use Rattle.session_model.specs.Standing.{HasLengths}
 use Rattle.session_laws.specs.Laws.{chain_lines_told, ReadIsReceived}
-use Rattle.session_laws.specs.Chains.{Heard, IsHeard, AreHeard, IsChainHeard, AreOfRun, AreReadToStep, last_cursor, lines_read, lines_heard, begun_at, Resumes, ResumptionHeard, NeverFalls, NeverOlderHeard}
+use Rattle.session_laws.specs.Chains.{Heard, IsHeard, AreHeard, IsChainHeard, AreOfRun, AreReadToStep, last_cursor, lines_read, lines_heard, begun_at, Resumes, ResumptionHeard, NeverOlderHeard}
 use Rattle.session_laws.proofs.Runs.{IsReplyOf, read_of_run}
 use Rattle.session_laws.proofs.Transcripts.{written_has_lengths}
 

@@ -1,20 +1,18 @@
 -- How a session ends.
-use Rattle.std.proofs.Common.{arith, ◌≡◌, ◌⊎◌, inl, inr, ℕ, Bool, true, false, not, cond, ◌||◌, ◌&&◌, List, [], ◌∷◌, length, map, Option, Some, None, refl, sym, ◌∙◌, ap, subst}
+use Rattle.std.proofs.Common.{◌≡◌, ◌⊎◌, inl, inr, ℕ, Bool, true, false, not, cond, ◌||◌, ◌&&◌, List, [], ◌∷◌, length, map, Option, Some, None, refl, sym, ◌∙◌, ap, subst}
 use Rattle.block_record.specs.declared.blocks.Slip.{Slip}
 use Rattle.chain_model.specs.declared.places.Place.{Place}
 use Rattle.chain_model.specs.Steps.{BlockStep, steps_of}
 use Rattle.chain_model.specs.Places.{opening}
-use Rattle.resume_laws.specs.Sessions.{place_through}
 use Rattle.step_cursor.specs.declared.cursor.Cursor.{Cursor}
 use Rattle.step_cursor.specs.declared.cursor.Request.{Request}
 use Rattle.step_cursor.specs.declared.cursor.MisfitField.{MisfitField}
 use Rattle.relay_model.specs.Worlds.{World}
-use Rattle.relay_model.specs.Soundness.{IsSound}
-use Rattle.relay_model.specs.Looks.{Position, Start, At, Look, Batch, NotYet, Done, Closing, Unknown, Misfit, StopBelow, looked, look_from, look_idle, look_open, look_known, look_fitted, look_start, look_cursor, is_none, is_final_by, is_ahead, unknown, misfit, stops_below, end_num}
+use Rattle.relay_model.specs.Looks.{Position, Start, At, Look, Batch, NotYet, Done, Closing, Unknown, Misfit, StopBelow, look_from, look_idle, look_open, look_known, look_fitted, look_start, look_cursor, is_none, is_final_by, is_ahead, unknown, misfit, stops_below, end_num}
 use Rattle.session_model.specs.Told.{Told, told}
 use Rattle.session_model.specs.Progress.{Stage, Waits, Progress}
-use Rattle.session_model.specs.Standing.{IsBetween, StandsAt, HasWritten}
-use Rattle.session_laws.specs.Laws.{last_place, IsStill, IsDone, IsClosing, EndsRight, LooksEndRight}
+use Rattle.session_model.specs.Standing.{StandsAt}
+use Rattle.session_laws.specs.Laws.{IsStill, EndsRight, LooksEndRight}
 
 no_steps : (xs : List BlockStep) → is_none xs ≡ true → xs ≡ []
 no_steps [] e = refl

@@ -1,22 +1,20 @@
 -- Whole lines that a client reads from the front of a session's text.
 use Rattle.std.proofs.Common.{arith, ◌≡◌, ◌≤◌, ◌⊎◌, inl, inr, ◌+◌, ℕ, zero, suc, Bool, true, false, List, [], ◌∷◌, ◌++◌, length, min, take, map, Option, refl, sym, ◌∙◌, ap, subst, add-one}
-use Rattle.std.specs.List.{AllByRecursion}
 use Rattle.std.proofs.Math.Seq.{take-length}
 use Rattle.std.proofs.lemmas.List.{length-append, length-take, length-map, take-map, take-append-le}
 use mathlib.Core.List.{IsPrefix}
 use Rattle.block_record.specs.declared.blocks.Slip.{Slip}
 use Rattle.chain_model.specs.declared.places.Mode.{Mode}
-use Rattle.resume_laws.specs.Sessions.{Line, StepLine, HeadLine, received}
+use Rattle.resume_laws.specs.Sessions.{StepLine, HeadLine, received}
 use Rattle.step_cursor.specs.declared.cursor.Request.{Request}
 use Rattle.relay_model.specs.Looks.{Start, At}
-use Rattle.reply_text.specs.Replies.{Reply, reply_text}
 use Rattle.reply_laws.specs.Laws.{ReadsFront}
 use Rattle.session_model.specs.declared.over.SessionOver.TheVariants as over
 use Rattle.session_model.specs.Told.{Told, Opens, Steps, Heads, Ends, Fails, told}
 use Rattle.session_model.specs.Transcript.{first_place, body}
-use Rattle.session_model.specs.Progress.{Stage, Waits, Sends, IsOver, Progress}
-use Rattle.session_model.specs.Standing.{StandsAt, HasWritten}
-use Rattle.session_laws.specs.Laws.{chain_lines_told, IsReceived, ReadIsReceived}
+use Rattle.session_model.specs.Progress.{Stage, Waits, Sends, IsOver}
+use Rattle.session_model.specs.Standing.{StandsAt}
+use Rattle.session_laws.specs.Laws.{chain_lines_told, ReadIsReceived}
 use Rattle.session_laws.proofs.Transcripts.{within_front}
 use Rattle.session_laws.proofs.Received.{body_is_received}
 

@@ -1,14 +1,13 @@
 -- The lines of a session are those of the law of resumption.
-use Rattle.std.proofs.Common.{arith, ◌≡◌, ◌+◌, ℕ, zero, suc, List, [], ◌∷◌, ◌++◌, take, map, Option, refl, sym, ◌∙◌, ap, add-one}
+use Rattle.std.proofs.Common.{◌≡◌, ℕ, zero, suc, List, [], ◌∷◌, ◌++◌, take, map, Option, refl, sym, ◌∙◌, ap, add-one}
 use Rattle.std.specs.List.{AllByRecursion}
 use Rattle.std.proofs.lemmas.List.{map-append, take-map}
 use Rattle.block_record.specs.declared.blocks.Slip.{Slip}
 use Rattle.chain_model.specs.declared.places.Mode.{Mode}
 use Rattle.chain_model.specs.declared.places.Place.{Place}
 use Rattle.chain_model.specs.Places.{PlacedStep, steps_to, place_to}
-use Rattle.resume_laws.specs.Sessions.{Line, StepLine, HeadLine, step_lines, batches, received}
+use Rattle.resume_laws.specs.Sessions.{Line, StepLine, HeadLine, step_lines, batches}
 use Rattle.chain_laws.specs.Oldest.{oldest}
-use Rattle.step_cursor.specs.declared.cursor.Request.{Request}
 use Rattle.session_model.specs.Told.{Told, Opens, Steps, Heads, Ends, Fails}
 use Rattle.session_model.specs.Transcript.{first_place, last_block, steps_told, batches_told, body}
 use Rattle.session_laws.specs.Laws.{chain_lines_told, BodyIsReceived}

@@ -1,5 +1,5 @@
 -- The cursors that a session writes have its run.
-use Rattle.std.proofs.Common.{◌≡◌, ℕ, zero, suc, List, [], ◌∷◌, ◌++◌, length, take, map, Option, Some, refl, sym, ◌∙◌, ap, subst}
+use Rattle.std.proofs.Common.{◌≡◌, ℕ, zero, suc, List, [], ◌∷◌, ◌++◌, length, take, map, Option, refl, sym, ◌∙◌, subst}
 use Rattle.std.specs.List.{AllByRecursion}
 use Rattle.block_record.specs.declared.blocks.Slip.{Slip}
 use Rattle.chain_model.specs.declared.places.Mode.{Mode}
@@ -8,7 +8,7 @@ use Rattle.chain_model.specs.Places.{PlacedStep, steps_to, place_to}
 use Rattle.chain_laws.specs.Oldest.{oldest}
 use Rattle.step_cursor.specs.declared.cursor.Request.{Request}
 use Rattle.relay_model.specs.Looks.{Start, At}
-use Rattle.reply_text.specs.Replies.{Reply, Open, StepOf, Head, End, Error}
+use Rattle.reply_text.specs.Replies.{Reply}
 use Rattle.reply_laws.specs.Laws.{ReadsFront}
 use Rattle.session_model.specs.declared.over.SessionOver.TheVariants as over
 use Rattle.session_model.specs.Told.{Told, Opens, Steps, Heads, Ends, Fails, told}

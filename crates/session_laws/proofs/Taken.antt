@@ -1,8 +1,7 @@
 -- The cursors that a session wrote are taken up.
-use Rattle.std.proofs.Common.{arith, ◌≡◌, ◌≤◌, ◌-◌, ℕ, List, [], ◌∷◌, ◌++◌, length, take, map, Option, None, Some, refl, sym, ◌∙◌, ap, subst}
+use Rattle.std.proofs.Common.{arith, ◌≡◌, ◌≤◌, ◌-◌, ℕ, List, [], ◌∷◌, ◌++◌, length, take, map, Option, Some, sym, ◌∙◌, subst}
 use Rattle.std.specs.List.{AllByRecursion}
 use Rattle.std.proofs.lemmas.List.{length-drop}
-use mathlib.Core.List.{IsPrefix}
 use Rattle.block_record.specs.declared.blocks.Slip.{Slip}
 use Rattle.chain_model.specs.declared.places.Mode.{Mode}
 use Rattle.chain_model.specs.declared.places.Place.{Place}
@@ -29,7 +28,7 @@ use Rattle.session_model.specs.Told.{Told, Opens, Steps, Heads, Ends, Fails, tol
 use Rattle.session_model.specs.Transcript.{first_place, steps_told, batches_told, body}
 use Rattle.session_model.specs.Progress.{Stage, Waits, Sends, IsOver}
 use Rattle.session_model.specs.Standing.{HasLengths, StandsAt}
-use Rattle.session_laws.specs.Chains.{Heard, IsHeard, IsTakenReply, CursorsAreTaken}
+use Rattle.session_laws.specs.Chains.{IsTakenReply, CursorsAreTaken}
 use Rattle.session_laws.proofs.Runs.{both, front}
 use Rattle.session_laws.proofs.Transcripts.{within_front}
 

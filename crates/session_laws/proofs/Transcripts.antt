@@ -1,5 +1,5 @@
 -- What a session has written is a front of its transcript.
-use Rattle.std.proofs.Common.{arith, ◌≡◌, ◌<◌, ◌≤◌, ◌+◌, ℕ, true, false, List, [], ◌∷◌, ◌++◌, length, take, drop, map, Option, Some, None, refl, sym, ◌∙◌, ap, subst, append_assoc}
+use Rattle.std.proofs.Common.{◌≡◌, ℕ, true, false, List, [], ◌∷◌, ◌++◌, take, drop, map, refl, sym, ◌∙◌, ap, subst, append_assoc}
 use Rattle.std.proofs.lemmas.List.{append-nil, map-append, take-append-drop}
 use mathlib.Core.List.{IsPrefix}
 use Rattle.block_record.specs.declared.blocks.Slip.{Slip}
@@ -14,9 +14,9 @@ use Rattle.session_model.specs.declared.over.SessionOver.TheVariants as over
 use Rattle.session_model.specs.Told.{Told, Opens, Steps, Heads, Ends, Fails, told, Shows}
 use Rattle.session_model.specs.Transcript.{first_place, last_block, steps_told, batches_told, body}
 use Rattle.session_model.specs.Progress.{OpenBatch, Stage, Waits, Sends, IsOver, Progress}
-use Rattle.session_model.specs.Standing.{HasLengths, IsWithin, StandsAt, HasWritten}
+use Rattle.session_model.specs.Standing.{HasLengths, IsWithin, StandsAt}
 use Rattle.session_model.proofs.public.Batch.{whole_body_at}
-use Rattle.session_laws.specs.Laws.{ShowsFront, Transcribed, WrittenIsTranscript, WrittenHasLengths}
+use Rattle.session_laws.specs.Laws.{Transcribed, WrittenIsTranscript, WrittenHasLengths}
 
 shows : (lines : List Told) (replies : List Reply) (text : List ℕ) → map told replies ≡ lines → text ≡ reply_text replies → Shows lines text
 shows lines replies text says is = record { replies = replies; says = says; text_is = is }

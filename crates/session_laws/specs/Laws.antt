@@ -5,7 +5,7 @@ use mathlib.Core.List.{IsPrefix}
 use Rattle.block_record.specs.declared.blocks.Slip.{Slip}
 use Rattle.chain_model.specs.declared.places.Place.{Place}
 use Rattle.chain_model.specs.Steps.{steps_of}
-use Rattle.resume_laws.specs.Sessions.{Line, StepLine, HeadLine, Session, place_through, received}
+use Rattle.resume_laws.specs.Sessions.{Line, StepLine, HeadLine, place_through, received}
 use Rattle.chain_model.specs.declared.places.Mode.{Mode}
 use Rattle.step_cursor.specs.declared.cursor.Request.{Request}
 use Rattle.relay_model.specs.Worlds.{World}
