@@ -1,9 +1,8 @@
-//! Blocks and ids, of which several modules speak.
+//! Blocks that tests speak of.
 
 use block_record::{Block, Bytes, Id};
 use sha2::{Digest, Sha256};
 use std::alloc::{AllocError, Global};
-use std::process::Abort;
 
 /// A block's number and id, its parent's number and id, and its lib number.
 pub type Fields = (u64, &'static str, u64, &'static str, u64);
@@ -45,10 +44,4 @@ pub fn whole_block(
         }
         _ => Ok(None),
     }
-}
-
-/// The id of this text.
-pub fn id_of(rt: &impl Abort, alloc: Global, text: &str) -> Result<Id, AllocError> {
-    let id = Id::new(alloc, text.as_bytes())?;
-    Ok(id.expect(rt, "an id"))
 }

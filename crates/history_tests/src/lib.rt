@@ -1,20 +1,16 @@
-//! Tests of the crates that keep a history, of what waits, and of the relay's looks and answers.
+//! Tests of the crates that keep a history and of what waits, and the blocks that these and other tests
+//! speak of.
 #![tactic(auto)]
 
-#[cfg(test)]
-mod blocks;
+pub mod blocks;
 #[cfg(test)]
 mod follow;
 #[cfg(test)]
 mod forks;
 #[cfg(test)]
-mod intakes;
+mod ids;
 #[cfg(test)]
 mod links;
-#[cfg(test)]
-mod looks;
-#[cfg(test)]
-mod relays;
 #[cfg(test)]
 mod rooms;
 #[cfg(test)]

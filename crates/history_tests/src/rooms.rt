@@ -3,7 +3,8 @@
 ghost use Rattle.std.specs.Prelude.{◌≡◌};
 ghost use Rattle.chain_model.specs.Ancestry.{has_id};
 
-use crate::blocks::{id_of, whole_block};
+use crate::blocks::whole_block;
+use crate::ids::id_of;
 use block_record::{Block, Id, Slip, slip_of};
 use std::alloc::{AllocError, Global};
 use std::process::Abort;

@@ -2,8 +2,9 @@
 
 ghost use Rattle.std.specs.Prelude.{◌≡◌, ◌<◌};
 
-use crate::blocks::{block_of, id_of};
+use crate::blocks::block_of;
 use crate::follow::may_follow;
+use crate::ids::id_of;
 use block_record::{Slip, into_slip};
 use block_tree::BlockTree;
 use link_rows::Uncounted;

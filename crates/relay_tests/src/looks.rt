@@ -3,10 +3,10 @@
 ghost use Rattle.std.specs.Prelude.{IfOk};
 ghost use Rattle.relay_look.specs.Answers.{FitsAt};
 
-use crate::blocks::{Fields, block_of};
 use block_record::{Block, BlockRef, Id, into_slip};
 use chain_model::{Mode, Place, Step};
 use fork_db::{Batch, ForkDb, ForkFault, Verdict};
+use history_tests::blocks::{Fields, block_of};
 use relay_look::{Look, LookFault, Position, look, misfit};
 use std::alloc::{AllocError, Global};
 use std::test::Fail;

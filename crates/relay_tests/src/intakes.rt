@@ -1,8 +1,8 @@
 //! Offers to small intakes, with answers worked out by hand.
 
-use crate::blocks::{A1, B2, Whole, whole_block};
 use block_intake::{Conflict, ConflictKind, Intake, IntakeLimits, OfferFault, Offered};
 use block_record::into_slip;
+use history_tests::blocks::{A1, B2, Whole, whole_block};
 use std::alloc::{AllocError, Global};
 use std::process::Abort;
 use std::test::Fail;

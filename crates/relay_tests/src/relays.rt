@@ -1,10 +1,10 @@
 //! Small relays, with answers worked out by hand.
 
-use crate::blocks::{A1, B2, Whole, whole_block};
 use block_record::{Kind, TypeName, Version};
 use block_relay::{ConflictKind, Limits, Look, OfferFault, Offered, Position, Relay};
 use chain_model::{Mode, Step};
 use fork_db::StepItem;
+use history_tests::blocks::{A1, B2, Whole, whole_block};
 use std::alloc::{AllocError, Global};
 use std::sync::Arc;
 use std::test::Fail;
