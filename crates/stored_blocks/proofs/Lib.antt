@@ -1,0 +1,8 @@
+mod PlaceLists
+mod PathFacts
+mod OnceFacts
+mod IndexFacts
+mod BundleLists
+mod RisingFacts
+mod PlanFacts
+pub mod public

@@ -1,0 +1,3 @@
+-- The lemmas that crates above cite: places whose blocks pass a test, and which blocks are stored by the payloads that are held.
+pub mod PassingFacts
+pub mod HeldFacts
