@@ -30,7 +30,7 @@ use Rattle.stored_blocks.specs.Stored.{Index, HasTaken, HasBegun, HasGrown, HasR
 use Rattle.stored_blocks.proofs.public.PassingFacts.{numbered, next_passing, fewer_passing}
 use Rattle.stored_blocks.proofs.public.HeldFacts.{given_up_more, given_up_same, has_among}
 use Rattle.stored_blocks.proofs.OnceFacts.{history_once, finals_once, final_there, front_lacks, take_more, slice_among, other_ids, filter_one_more, find_one_more, newer_lacks, slip_at_older}
-use Rattle.stored_blocks.proofs.PathFacts.{count_low, count_on, count_past, count_off, count_mono, count_same, filter_same, find_same, filter_push, off_push, off_stored}
+use Rattle.stored_blocks.proofs.public.PathFacts.{count_low, count_on, count_past, count_off, count_mono, count_same, filter_same, find_same, filter_push, off_push, off_stored}
 
 -- the next block
 pub block_added : (newest path : List Slip) (q : Slip → Bool) (i : Index) (ys : List NumberedPlace) (s : Slip) (room : ℕ) → slip_at newest i.seen ≡ Some s → is_off path q s ≡ true

@@ -1,5 +1,4 @@
 mod PlaceLists
-mod PathFacts
 mod OnceFacts
 mod IndexFacts
 mod BundleLists

@@ -21,7 +21,7 @@ use Rattle.bundle_model.proofs.public.RetainedFacts.{id_there}
 use Rattle.bundle_model.proofs.public.StoredFacts.{final_found, found_is_among, one_of_id}
 use Rattle.stored_blocks.specs.Stored.{is_past}
 use Rattle.stored_blocks.proofs.public.HeldFacts.{has_among}
-use Rattle.stored_blocks.proofs.PathFacts.{filter_same}
+use Rattle.stored_blocks.proofs.public.PathFacts.{filter_same}
 
 pub history_once : (newest : List Slip) → IsHistory newest → HasIdsOnce newest
 history_once [] history = tt

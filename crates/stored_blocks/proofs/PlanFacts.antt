@@ -25,7 +25,7 @@ use Rattle.stored_blocks.specs.Places.{Rises}
 use Rattle.stored_blocks.specs.Stored.{Index, IsIndex, is_given_up, is_off, world_in}
 use Rattle.stored_blocks.proofs.BundleLists.{begun_bundle, climbs_drop, from_base, last_begun, new_bundle, open_within}
 use Rattle.stored_blocks.proofs.public.HeldFacts.{given_up_at}
-use Rattle.stored_blocks.proofs.PathFacts.{count_find, filter_same, has_push}
+use Rattle.stored_blocks.proofs.public.PathFacts.{count_find, filter_same, has_push}
 use Rattle.stored_blocks.proofs.RisingFacts.{once_places, places_where, some_same, sorted_is, times_among, times_some, times_sorted, where_has, where_is, where_rises, where_slips}
 
 pub size_some : (size : ℕ) → IsTrue (is_size size) → 0 < size
@@ -212,7 +212,7 @@ pub begun_there : (f : Forks) (i : Index) → IsIndex f i → 0 < i.front → sl
 begun_there f i h some e =
     let le = Rattle.stored_blocks.proofs.IndexFacts.past_finals f (i.front - 1) e in
     let ef = h.taken.front in
-    let low = Rattle.stored_blocks.proofs.PathFacts.count_low (is_given_up f) (finals_up f.history) in
+    let low = Rattle.stored_blocks.proofs.public.PathFacts.count_low (is_given_up f) (finals_up f.history) in
     omega (arith, le, ef, low, some)
 
 -- the last stored final block

@@ -124,6 +124,7 @@ impl StoredBlocks {
     pub fn grow(&mut self, db: &ForkDb)
         requires { HasGrown self.old db.now }
         ensures index { IsIndex db.now self.new }
+        ensures stored { self.new.stored ≡ self.old.stored }
     {
         // The history is one, and its claims agree.
         let _ = db.len();
@@ -139,6 +140,7 @@ impl StoredBlocks {
         ensures begun { HasBegun db.now self.new }
         ensures whole { self.new.seen ≡ length db.now.history }
         ensures finals { self.new.finals ≡ self.old.finals }
+        ensures stored { self.new.stored ≡ self.old.stored }
     {
         for _ in self.seen..db.len() as usize {
             self.add_block(db);
@@ -155,6 +157,7 @@ impl StoredBlocks {
         ensures rest { RestIsOff db.now self.new }
         ensures seen { self.new.seen ≡ self.old.seen + 1 }
         ensures finals { self.new.finals ≡ self.old.finals }
+        ensures stored { self.new.stored ≡ self.old.stored }
         ensures room { self.new.room + 1 ≡ self.old.room }
     {
         let _ = db.len();
@@ -167,6 +170,7 @@ impl StoredBlocks {
         requires begun { HasBegun db.now self.old }
         requires whole { self.old.seen ≡ length db.now.history }
         ensures index { IsIndex db.now self.new }
+        ensures stored { self.new.stored ≡ self.old.stored }
     {
         for _ in self.finals..db.len() {
             let Some(at) = final_at(db, self.finals) else {
@@ -186,6 +190,7 @@ impl StoredBlocks {
         ensures begun { HasBegun db.now self.new }
         ensures whole { self.new.seen ≡ self.old.seen }
         ensures finals { self.new.finals ≡ self.old.finals + 1 }
+        ensures stored { self.new.stored ≡ self.old.stored }
     {
         let _ = db.len();
         if self.off.remove(&numbered(db, at)) {

@@ -2,7 +2,7 @@ use Rattle.std.proofs.Common.{arith, sym, ap, ◌∙◌}
 use Rattle.block_tree.proofs.public.WalkFacts.{slip_there}
 use Rattle.bundle_model.specs.Bundles.{finals_up}
 use Rattle.stored_blocks.specs.Stored.{is_given_up, is_gone}
-use Rattle.stored_blocks.proofs.PathFacts.{count_low, count_step, count_stop}
+use Rattle.stored_blocks.proofs.public.PathFacts.{count_low, count_step, count_stop}
 use Rattle.stored_blocks.proofs.public.HeldFacts.{given_up_at, held_gone, none_gone}
 use Rattle.stored_blocks.proofs.stored.front_from.Goals as goal
 

@@ -9,4 +9,5 @@ invariant-loop l = record {
   room : length l.db.history ≤ l.self.seen + l.self.room;
   seen : l.self.seen ≡ l.counter;
   finals : l.self.finals ≡ l.fn.self.finals;
+  stored : l.self.stored ≡ l.fn.self.stored;
 }

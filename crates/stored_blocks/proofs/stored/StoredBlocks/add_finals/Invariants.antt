@@ -7,4 +7,5 @@ invariant-loop l = record {
   begun : HasBegun l.db l.self;
   whole : l.self.seen ≡ length l.db.history;
   finals : l.self.finals ≡ l.counter;
+  stored : l.self.stored ≡ l.fn.self.stored;
 }
