@@ -1,2 +1,1 @@
 pub mod public
-mod FolderFacts

@@ -37,7 +37,7 @@ use Rattle.store_files.specs.Folders.{with_base, merged_of, singles_of, in_folde
 use Rattle.store_files.specs.Kept.{IsBundleFile, IsWholeKept}
 use Rattle.store_files.specs.Laws.{IsBundleText, BundleFileKeeps, BundleFileShows}
 use Rattle.store_files.proofs.public.TextFacts.{holds_shows, holds_recordable}
-use Rattle.store_files.proofs.FolderFacts.{folder_with}
+use Rattle.store_files.proofs.public.FolderFacts.{folder_with}
 use Rattle.store_files.proofs.public.KeptFacts.{size_is, size_some, formed_with, false_true, resized, same_files}
 
 eqb_no : (a b : ℕ) → (a ≡ b → ⊥) → eqb a b ≡ false

@@ -48,7 +48,7 @@ use Rattle.store_files.specs.Folders.{merged_of, singles_of, in_folder, size_by,
 use Rattle.store_files.specs.Kept.{IsSingleFile, HasForm, AreFormed, IsWholeKept}
 use Rattle.store_files.specs.Laws.{LoadKeepsFiles, IsOther, PutFileKeeps, OwnFileShows, ForkFileKeeps, ForkFileShows, OtherFileKeeps, SweepFileKeeps, RemoveFileKeeps}
 use Rattle.store_files.proofs.public.TextFacts.{holds_shows, holds_blocks, holds_recordable, holds_named}
-use Rattle.store_files.proofs.FolderFacts.{File, ShownBy, slips_has, slips_parts, named_parts, merged_from, of_folder, to_folder, first_byte, apart, among_with, with_has, with_from, folder_with, folder_without, at_among, file_at_among, none_among}
+use Rattle.store_files.proofs.public.FolderFacts.{File, ShownBy, slips_has, slips_parts, named_parts, merged_from, of_folder, to_folder, first_byte, apart, among_with, with_has, with_from, folder_with, folder_without, at_among, file_at_among, none_among}
 
 -- the size is 100 or 1,000
 told_size : (r : Result ℕ ℕ) → ((n : ℕ) → r ≡ Ok n → IsSize n) → IsSize (result_unwrap_or r 100)
