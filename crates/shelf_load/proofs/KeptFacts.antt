@@ -7,7 +7,7 @@ use Rattle.std.specs.Str.{bytes_eq}
 use Rattle.std.proofs.lemmas.Slice.Eq.{bytes_eq-Decides}
 use Rattle.block_record.specs.Slips.{slip}
 use Rattle.outer_world.specs.Files.{Files, names_of, file_at, without_file, is_in, names_in}
-use Rattle.outer_world.proofs.NameOrder.{in_order_filter}
+use Rattle.outer_world.proofs.public.NameOrder.{in_order_filter}
 use Rattle.one_block.specs.declared.forms.Folder.TheVariants.{One}
 use Rattle.relay_model.specs.Worlds.{World}
 use Rattle.relay_model.specs.Soundness.{IsSound}

@@ -9,7 +9,7 @@ use Rattle.std.proofs.lemmas.List.Folds.{list_any-append}
 use Rattle.std.proofs.lemmas.Slice.Eq.{bytes_eq-Decides}
 use Rattle.block_record.specs.declared.blocks.Slip.{Slip}
 use Rattle.outer_world.specs.Files.{Files, AreInOrder, names_of, comes_before, file_at, without_file, is_in, names_in}
-use Rattle.outer_world.proofs.FileFacts.{before_other}
+use Rattle.outer_world.proofs.public.FileFacts.{before_other}
 use Rattle.relay_model.specs.Worlds.{World}
 use Rattle.bundle_model.specs.Members.{Among}
 use Rattle.bundle_model.specs.Shedding.{may_sweep}
