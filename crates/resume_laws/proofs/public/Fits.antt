@@ -1,5 +1,5 @@
 -- Places that fit a history at one length, and at a later one.
-use Rattle.std.proofs.Common.{◌≡◌, ◌≤◌, ◌-◌, ℕ, List, ◌++◌, length, take, sym, subst}
+use Rattle.std.proofs.Common.{◌≤◌, ◌-◌, ℕ, List, length, take, sym, subst}
 use Rattle.block_record.specs.declared.blocks.Slip.{Slip}
 use Rattle.chain_model.specs.declared.places.Place.{Place}
 use Rattle.chain_model.specs.Ancestry.{IsHistory}
