@@ -1,5 +1,4 @@
+pub mod public
 pub mod JudgedFacts
 pub mod CountFacts
 pub mod TakingFacts
-pub mod IntakeFacts
-pub mod AlikeFacts

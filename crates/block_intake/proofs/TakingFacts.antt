@@ -13,7 +13,7 @@ use Rattle.chain_model.specs.Finality.{root_num}
 use Rattle.fork_db.specs.Forks.{Forks}
 use Rattle.fork_db.specs.Verdicts.{verdict_of, fits}
 use Rattle.wait_room.specs.Rooms.{AreKept, Room, children_in, linked_in, room_without}
-use Rattle.wait_room.proofs.LinkedFacts.{linked_more, none_held}
+use Rattle.wait_room.proofs.public.LinkedFacts.{linked_more, none_held}
 use Rattle.relay_model.proofs.public.Judged.{IsTaker, judged_takes}
 use Rattle.relay_model.proofs.public.Sound.{first_intake, new_parts, rises_above, starts}
 use Rattle.block_intake.proofs.JudgedFacts.{fits_child}

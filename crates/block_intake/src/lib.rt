@@ -9,8 +9,6 @@ mod intake;
 mod judged;
 mod limits;
 mod taking;
-#[cfg(test)]
-mod tests;
 
 pub use answers::{OfferFault, Offered};
 pub use buffers::reserve_buffers;

@@ -24,6 +24,3 @@ pub use readers::ReaderName;
 pub use records::{decode, encode, encode_old};
 pub use slip_refs::SlipRef;
 pub use types::{TypeName, is_type_name};
-
-#[cfg(test)]
-mod tests;

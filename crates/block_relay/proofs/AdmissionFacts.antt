@@ -12,7 +12,7 @@ use Rattle.relay_model.specs.Offers.{Intake, Admitted as AdmittedAs, answer_by, 
 use Rattle.relay_model.specs.Verdicts as verdict
 use Rattle.block_intake.specs.Intakes.{IsAlike, TakenIn, unnoted, world_taken}
 use Rattle.block_intake.specs.Taking.{intake_from}
-use Rattle.block_intake.proofs.IntakeFacts.{brings, intake_same, takes_rule}
+use Rattle.block_intake.proofs.public.IntakeFacts.{brings, intake_same, takes_rule}
 use Rattle.block_relay.specs.declared.marks.Mark.{Mark}
 use Rattle.block_relay.specs.declared.marks.Mark.TheVariants as mark
 use Rattle.block_relay.specs.Chronicle.{IsKept, Told, entries_by, has_kind_mark, kind_entry, kind_mark, told_with, world_told}

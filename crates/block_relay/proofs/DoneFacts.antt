@@ -13,7 +13,7 @@ use Rattle.block_intake.specs.declared.answers.OfferFault.TheVariants as fault
 use Rattle.block_intake.specs.Answers.{IsAnswer, TakesMemory, is_mem}
 use Rattle.block_intake.specs.Taking.{IsRoomFault}
 use Rattle.block_intake.specs.Intakes.{IsAlike, TakenIn, world_taken}
-use Rattle.block_intake.proofs.IntakeFacts.{full_rule, limit_memory}
+use Rattle.block_intake.proofs.public.IntakeFacts.{full_rule, limit_memory}
 use Rattle.block_relay.specs.Chronicle.{Told, world_told}
 use Rattle.block_relay.specs.Done.{IsDone}
 use Rattle.block_relay.proofs.KeptFacts.{told, told_left}

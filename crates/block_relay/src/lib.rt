@@ -10,8 +10,6 @@ mod memory;
 mod merging;
 mod notes;
 mod relay;
-#[cfg(test)]
-mod tests;
 
 pub use answers::KindFault;
 pub use block_intake::{Conflict, ConflictKind, OfferFault, Offered};

@@ -6,8 +6,6 @@ mod places;
 mod plain;
 mod scans;
 mod steps;
-#[cfg(test)]
-mod tests;
 
 pub use places::{Mode, Place, PlainStep, Step};
 pub use plain::{place_to, plain_steps};

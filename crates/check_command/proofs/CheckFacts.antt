@@ -1,6 +1,6 @@
 -- Runs of the command, by how they end.
 use Rattle.std.proofs.Common.{ℕ, List, inl, inr, arith}
-use Rattle.outer_world.proofs.TakenFacts.{took_nothing}
+use Rattle.outer_world.proofs.public.TakenFacts.{took_nothing}
 use Rattle.command_io.specs.Streams.{ShelfState, SinkState, SourceState, ToldLine, streams_of}
 use Rattle.check_command.specs.Check.{CheckAnswered, CheckRun}
 

@@ -5,6 +5,3 @@ mod lines;
 mod run;
 
 pub use run::{CheckStop, run_check};
-
-#[cfg(test)]
-mod tests;

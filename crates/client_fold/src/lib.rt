@@ -2,7 +2,5 @@
 #![tactic(auto)]
 
 mod folder;
-#[cfg(test)]
-mod tests;
 
 pub use folder::{FoldFault, Folder};

@@ -12,6 +12,3 @@ pub use headers::header;
 pub use laws::{container_is_read, read_is_spelled, whole_is_container};
 pub use messages::{MESSAGE_BYTES_MAX, message};
 pub use reader::DbinReader;
-
-#[cfg(test)]
-mod tests;

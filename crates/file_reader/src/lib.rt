@@ -4,6 +4,3 @@
 mod reader;
 
 pub use reader::FileReader;
-
-#[cfg(test)]
-mod tests;

@@ -11,7 +11,7 @@ use Rattle.outer_world.specs.Shelves.{Holds, HasSize}
 use Rattle.one_block.specs.Files.{forked_text}
 use Rattle.one_block.specs.declared.faults.StoreFault.{StoreFault}
 use Rattle.one_block.specs.declared.faults.StoreFault.TheVariants.{ShelfFault, ShelfBad, Missing, StoredOther, NameClash, Mem}
-use Rattle.file_source.specs.Sources.{files_of, merged_of, HasUnder, LacksId, IsBadUnder, IsFirstFile, IsFetched, IsMissing, FetchRefused}
+use Rattle.file_source.specs.Sources.{files_of, merged_of, HasUnder, LacksId, IsBadUnder, IsFileOf, IsFirstFile, IsFetched, IsMissing, IsNamed, FetchRefused}
 use Rattle.file_source.specs.Steps.{IsReadCause, SearchRefused, SearchAnswers, IsUnder, FindRefused, FindAnswers, JudgeRefused}
 use Rattle.file_source.proofs.SearchFacts.{rose_later}
 
@@ -145,3 +145,12 @@ read_refused files s before now (Missing missing) r = absurd r
 read_refused files s before now (StoredOther kept read) r = absurd r
 read_refused files s before now (NameClash held offered) r = absurd r
 read_refused files s before now Mem r = tt
+
+-- a refusal names a file of the block
+pub named_refusal : (files : Option Files) (s : Slip) (before now : ℕ) (fault : StoreFault) → FetchRefused files s before now fault → IsNamed s fault
+named_refusal files s before now ShelfFault r = tt
+named_refusal files s before now (ShelfBad name at) r = record { before = r.before; after = r.after; names = r.names }
+named_refusal files s before now (Missing name) r = let P : List ℕ → Type 0 = IsFileOf s in subst P (sym r.name_is) (record { before = forked_text s.num s.id ∷ []; after = merged_of 1000 s.num ∷ []; names = refl })
+named_refusal files s before now (StoredOther kept read) r = tt
+named_refusal files s before now (NameClash held offered) r = tt
+named_refusal files s before now Mem r = tt

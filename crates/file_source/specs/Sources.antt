@@ -86,3 +86,18 @@ FetchRefused files s before now Mem = ⊤
 abbrev pub FetchAnswers : Option Files → Slip → ℕ → ℕ → Result Block StoreFault → Type 0
 FetchAnswers files s before now (Ok b) = IsFetched files s b
 FetchAnswers files s before now (Err fault) = FetchRefused files s before now fault
+
+-- this is one of the files in which the block may be
+pub record IsFileOf (s : Slip) (name : List ℕ) : Type 0 where
+  pub before : List (List ℕ)
+  pub after : List (List ℕ)
+  pub names : files_of s ≡ before ++ name ∷ after
+
+-- a refusal names one of those files, or none
+abbrev pub IsNamed : Slip → StoreFault → Type 0
+IsNamed s ShelfFault = ⊤
+IsNamed s (ShelfBad name at) = IsFileOf s name
+IsNamed s (Missing name) = IsFileOf s name
+IsNamed s (StoredOther kept read) = ⊤
+IsNamed s (NameClash held offered) = ⊤
+IsNamed s Mem = ⊤

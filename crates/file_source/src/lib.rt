@@ -7,6 +7,3 @@ mod source;
 
 pub use places::fetch;
 pub use source::BlockSource;
-
-#[cfg(test)]
-mod tests;

@@ -1,9 +1,9 @@
 //! A block from the first of its files that has one under its id.
 
-ghost use Rattle.std.specs.Prelude.{◌≡◌, ◌≤◌, ◌↔◌, IfOk, IsTrue};
+ghost use Rattle.std.specs.Prelude.{◌≡◌, ◌≤◌, ◌↔◌, IfErr, IfOk, IsTrue};
 ghost use Rattle.block_record.specs.Slips.{slip as slip_of};
 ghost use Rattle.one_block.specs.Files.{IsSize};
-ghost use Rattle.file_source.specs.Sources.{FetchAnswers, merged_of as merged_file};
+ghost use Rattle.file_source.specs.Sources.{FetchAnswers, IsNamed, merged_of as merged_file};
 ghost use Rattle.file_source.specs.Steps.{AllAnswers, FindAnswers, Judges};
 
 use crate::search::first_under;
@@ -20,6 +20,7 @@ use std::alloc::{AllocError, Global};
 pub fn fetch<S: Shelf>(alloc: Global, shelf: &mut S, slip: &Slip) -> Result<Block, StoreFault>
     ensures answer { FetchAnswers (S.files shelf.old) slip.now
         (S.shelf_faults shelf.old) (S.shelf_faults shelf.new) result }
+    ensures named { IfErr result (IsNamed slip.now) }
     ensures files { S.files shelf.new ≡ S.files shelf.old }
     ensures staged { S.staged shelf.new ≡ S.staged shelf.old }
     ensures later { S.shelf_faults shelf.old ≤ S.shelf_faults shelf.new }

@@ -1,4 +1,4 @@
-pub mod FieldFacts
+pub mod public
 pub mod FrontFacts
 pub mod LineFacts
 pub mod PartFacts

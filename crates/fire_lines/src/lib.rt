@@ -13,6 +13,3 @@ pub use faults::LineFault;
 pub use laws::{printed_is_read, text_goes_on};
 pub use print::{print_block, print_init};
 pub use reader::LineReader;
-
-#[cfg(test)]
-mod tests;

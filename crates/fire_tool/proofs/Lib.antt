@@ -1,4 +1,1 @@
-pub mod TellFacts
-pub mod ProgressFacts
-pub mod StepsFacts
-mod CursorFacts
+mod WordFacts

@@ -1,8 +1,8 @@
 -- What a run of the program has done, by the words of its command line.
 use Rattle.std.specs.Prelude.{ℕ, ◌≡◌, Bool, true, false, List, [], Option, None, Some, codes}
 use Rattle.check_command.specs.Check.{CheckRun}
-use Rattle.fire_tool.specs.CursorCommand.{CursorRun}
-use Rattle.fire_tool.specs.Runs.{StepsRun}
+use Rattle.cursor_command.specs.CursorCommand.{CursorRun}
+use Rattle.steps_command.specs.Runs.{StepsRun}
 use Rattle.command_io.specs.Streams.{Flow, ShelfState, Streams, TookInput, WroteNothing, ToldError}
 use Rattle.fire_tool.specs.Words.{cursor_value, names_check, steps_first}
 

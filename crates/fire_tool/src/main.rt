@@ -2,12 +2,7 @@
 //! says what a cursor's text stands for, and checks the files of a shelf.
 #![tactic(auto)]
 
-mod cursor;
-mod error_lines;
-mod following;
-mod progress;
 mod run;
-mod steps;
 mod streams;
 #[cfg(test)]
 mod tests;

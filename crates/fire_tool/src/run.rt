@@ -3,19 +3,17 @@
 
 ghost use Rattle.std.specs.Prelude.{◌≡◌, codes, false, map, true};
 ghost use Rattle.check_command.specs.Check.{ReportsGood};
-ghost use Rattle.fire_tool.specs.CursorCommand.{CursorRun};
 ghost use Rattle.fire_tool.specs.Program.{RunsPlain};
-ghost use Rattle.fire_tool.specs.Runs.{StepsRun};
 ghost use Rattle.fire_tool.specs.Words.{names_check};
-ghost use Rattle.command_io.specs.Streams.{SourceState, ToldLine, shelf_at, sink_at, streams_at, streams_of};
+ghost use Rattle.command_io.specs.Streams.{ToldLine, shelf_at, sink_at, streams_at};
 
-use crate::cursor::run_cursor;
-use crate::steps::run_steps;
 use crate::words::{cursor_value, is_check, steps_first};
 use check_command::run_check;
-use command_io::{Ended, Status, tell_error};
+use command_io::{Status, tell_error};
+use cursor_command::run_cursor;
 use outer_world::{Shelf, Sink, Source};
 use std::alloc::Global;
+use steps_command::run_steps;
 
 /// Runs the command that the words name, over an input, an output, a place for error lines and a
 /// shelf, and gives the exit status. It always returns.
@@ -49,67 +47,11 @@ pub fn run_plain<I: Source, O: Sink, E: Sink, S: Shelf>(
         return run_check(alloc, shelf, output, errors);
     }
     match cursor_value(words) {
-        Some(text) => run_cursor_command(alloc, text, output, errors),
+        Some(text) => run_cursor(alloc, text, output, errors),
         None => match steps_first(words) {
-            Some(first) => run_steps_command(alloc, first, input, output, errors),
+            Some(first) => run_steps(alloc, first, input, output, errors),
             None => refuse_words(errors),
         },
-    }
-}
-
-/// Runs `steps` for blocks with numbers of at least `first`, and tells how it ended.
-fn run_steps_command<I: Source, O: Sink, E: Sink>(
-    alloc: Global,
-    first: u64,
-    input: &mut I,
-    output: &mut O,
-    errors: &mut E,
-) -> Status
-    ensures { let streams = streams_at I.Source O.Sink E.Sink in
-        StepsRun first (streams input.old output.old errors.old)
-        (streams input.new output.new errors.new) result.code }
-{
-    match run_steps(alloc, first, input, output) {
-        Ok(ended) => {
-            tell_error(errors, ended.line.as_slice());
-            Status { code: ended.status }
-        }
-        Err(stop) => {
-            tell_error(errors, stop.line());
-            Status {
-                code: stop.status(),
-            }
-        }
-    }
-}
-
-/// Runs `cursor` with this value of its option, and tells how it ended.
-fn run_cursor_command<O: Sink, E: Sink>(
-    alloc: Global,
-    text: &[u8],
-    output: &mut O,
-    errors: &mut E,
-) -> Status
-    ensures { (input : SourceState) → CursorRun text.now
-        (streams_of input (sink_at O.Sink output.old) (sink_at E.Sink errors.old))
-        (streams_of input (sink_at O.Sink output.new) (sink_at E.Sink errors.new))
-        result.code }
-{
-    if str::from_utf8(text).is_err() {
-        tell_error(errors, b"fire: usage\n");
-        return Status { code: 2 };
-    }
-    match run_cursor(alloc, text, output) {
-        Ok(Ended { line, status }) => {
-            tell_error(errors, line.as_slice());
-            Status { code: status }
-        }
-        Err(stop) => {
-            tell_error(errors, stop.line());
-            Status {
-                code: stop.status(),
-            }
-        }
     }
 }
 

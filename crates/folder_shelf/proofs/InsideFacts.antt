@@ -5,7 +5,7 @@ use Rattle.std.specs.Prelude.{IsTrue, codes}
 use Rattle.std.specs.List.{list_any}
 use Rattle.std.specs.Str.{bytes_eq}
 use Rattle.outer_world.specs.Files.{is_in}
-use Rattle.outer_world.proofs.FileFacts.{same_name}
+use Rattle.outer_world.proofs.public.FileFacts.{same_name}
 use Rattle.folder_shelf.specs.Names.{is_part, is_slash, joined}
 
 last_test : (a b c d : Bool) → IsTrue (not a && not b && not c && not d) → d ≡ false

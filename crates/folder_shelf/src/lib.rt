@@ -10,8 +10,6 @@ mod open_file;
 mod places;
 mod shelf;
 mod stage_file;
-#[cfg(test)]
-mod tests;
 mod unflushed;
 
 pub use folder_lock::{FolderLock, LockFail};

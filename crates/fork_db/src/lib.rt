@@ -8,8 +8,6 @@ mod db;
 mod heads;
 mod held;
 mod openings;
-#[cfg(test)]
-mod tests;
 
 pub use batches::Batch;
 pub use chunks::{StepAt, StepItem};

@@ -3,8 +3,6 @@
 
 mod counts;
 mod rows;
-#[cfg(test)]
-mod tests;
 
 pub use counts::{LinkCount, Steps, Uncounted};
 pub use rows::{LinkRows, PLACES_MAX, digits};

@@ -10,8 +10,8 @@ use Rattle.std.specs.Ordering.{nat_cmp, is_lt, is_eq, ordering_reverse, match_or
 use Rattle.std.specs.Str.{bytes_eq}
 use Rattle.outer_world.specs.Files.{Files, AreInOrder, comes_before, file_at, names_in, is_in, names_of, put_before, with_file, without_file}
 use Rattle.outer_world.specs.Shelves.{AreNamesOf}
-use Rattle.outer_world.proofs.FileFacts.{before_other}
-use Rattle.outer_world.proofs.NameOrder.{in_order_filter, all_kept}
+use Rattle.outer_world.proofs.public.FileFacts.{before_other}
+use Rattle.outer_world.proofs.public.NameOrder.{in_order_filter, all_kept}
 
 abbrev by_name : List ℕ → List ℕ → Ordering
 by_name = slice_cmp nat_cmp

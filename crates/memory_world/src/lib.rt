@@ -17,8 +17,3 @@ pub use memory::{MemorySink, MemorySource};
 pub use memory_shelf::MemoryShelf;
 pub use pieces::PiecesSource;
 pub use plans::{FailingShelf, FailingSink, FailingSource, FaultPlan};
-
-#[cfg(test)]
-mod shelf_tests;
-#[cfg(test)]
-mod tests;

@@ -3,6 +3,7 @@ pub mod OptionFacts
 pub mod NumeralFacts
 pub mod NameFacts
 pub mod FileFacts
+pub mod FolderFacts
 pub mod LayoutFacts
 pub mod ContainerFacts
 pub mod HeadFacts

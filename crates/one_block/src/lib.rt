@@ -32,8 +32,3 @@ pub use parse::parse_name;
 pub use put::put_block;
 pub use read::read_filled;
 pub use singles::{SingleRead, read_single};
-
-#[cfg(test)]
-mod put_tests;
-#[cfg(test)]
-mod tests;

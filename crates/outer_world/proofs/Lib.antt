@@ -1,5 +1,2 @@
-pub mod Fronts
-pub mod TakenFacts
-pub mod FileFacts
-pub mod NameOrder
+pub mod public
 pub mod ShelfFacts

@@ -8,7 +8,7 @@ use Rattle.outer_world.specs.Files.{Files, file_at}
 use Rattle.outer_world.specs.Shelves.{HasSize, Holds, ReadsFile, ReadsText, Commits, CommitRefused, KeepsOthers, StagesFront, emptied, with_piece, told_with}
 use Rattle.outer_world.specs.declared.shelves.ShelfFail.{ShelfFail}
 use Rattle.outer_world.specs.declared.shelves.ShelfFail.TheVariants.{Failed, Mem}
-use Rattle.outer_world.proofs.FileFacts.{file_at-with_other}
+use Rattle.outer_world.proofs.public.FileFacts.{file_at-with_other}
 
 -- the text begins what stands under a name
 pub record BeginsText (file text : List ℕ) : Type 0 where

@@ -12,6 +12,3 @@ pub use files::{read_file, write_file};
 pub use names::FileName;
 pub use shelves::{Shelf, ShelfFail};
 pub use traits::{Failed, Sink, Source};
-
-#[cfg(test)]
-mod tests;

@@ -1,3 +1,4 @@
+pub mod public
 pub mod EitherTest
 pub mod TwoHistories
 pub mod Moves
@@ -5,12 +6,9 @@ pub mod RunFacts
 pub mod Keys
 pub mod Times
 pub mod OrderFacts
-pub mod Scratch
-pub mod RunSteps
 pub mod Drains
 pub mod Growing
 pub mod OrderRuns
 pub mod Sorted
 pub mod SortedRuns
-pub mod FromScratch
 mod TableFacts

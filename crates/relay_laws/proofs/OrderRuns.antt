@@ -11,7 +11,7 @@ use Rattle.relay_model.specs.Orders.{position, link_time}
 use Rattle.relay_model.specs.Soundness.{IsDistinct}
 use Rattle.relay_laws.proofs.RunFacts.{last_of}
 use Rattle.relay_laws.proofs.Times.{IsParent, link_down, above_root, IsAboveRoot}
-use Rattle.relay_laws.proofs.Scratch.{line_parent, alone_last}
+use Rattle.relay_laws.proofs.public.Scratch.{line_parent, alone_last}
 
 -- a history with new blocks: each is the admitted one, or waited for a block that is new too
 pub record IsNewPart (whole old : List Slip) (s : Slip) : Type 0 where

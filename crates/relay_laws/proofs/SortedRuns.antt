@@ -32,10 +32,10 @@ use Rattle.relay_model.proofs.public.Entries.{distinct_found}
 use Rattle.chain_laws.proofs.public.Tips.{on_one_path}
 use Rattle.relay_laws.proofs.Moves.{Moves, moves}
 use Rattle.relay_laws.proofs.RunFacts.{last_of, last_append, IsStep, IsRun, Where, run_step}
-use Rattle.relay_laws.proofs.RunSteps.{no_root, run_of, block_step, rest_one, once_distinct, empty_both}
+use Rattle.relay_laws.proofs.public.RunSteps.{no_root, run_of, block_step, rest_one, once_distinct, empty_both}
 use Rattle.relay_laws.proofs.Drains.{Pairs, Later, Above, pairs_filter, IsDraining, Honest, drain}
 use Rattle.relay_laws.proofs.Growing.{link_grows, position_low, Newer}
-use Rattle.relay_laws.proofs.Scratch.{IsBegun, scratch_linked, alone_last, all_at}
+use Rattle.relay_laws.proofs.public.Scratch.{IsBegun, scratch_linked, alone_last, all_at}
 use Rattle.relay_laws.proofs.OrderRuns.{IsNewPart, new_path, new_time}
 use Rattle.relay_laws.proofs.Sorted.{pairs_by, front_new, newer_grows, tip_below, time_low, IsAllNew, sorted_after}
 

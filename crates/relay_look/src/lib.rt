@@ -5,9 +5,8 @@ mod answers;
 mod cursors;
 mod looks;
 mod paths;
-#[cfg(test)]
-mod tests;
 
 pub use answers::{Look, LookFault, Position};
+pub use cursors::misfit;
 pub use looks::look;
 pub use paths::tip_number;

@@ -1,3 +1,4 @@
+pub mod public
 mod CursorFacts
 mod Traces
 mod Chains

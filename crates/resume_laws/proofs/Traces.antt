@@ -18,7 +18,8 @@ use Rattle.resume_laws.specs.Sessions.{Line, StepLine, HeadLine, Session, step_l
 use Rattle.chain_laws.proofs.public.Walks.{Walk, next, walk_fits}
 use Rattle.chain_laws.proofs.public.Starts.{start}
 use Rattle.chain_laws.proofs.public.Ends.{walk_end, walk_along, walk_under, place_reached}
-use Rattle.chain_laws.proofs.public.Later.{history_older, agreed_older, fits_later, lines_later, stands_later, under_older, under_later, oldest_whole, oldest_parts}
+use Rattle.chain_laws.proofs.public.Later.{history_older, fits_later, lines_later, stands_later, under_older, under_later, oldest_whole}
+use Rattle.resume_laws.proofs.public.Fits.{fits_at_more}
 use Rattle.chain_model.specs.Places.{PlacedStep, placed, place_along, place_to, steps_to, PlaceFits, IsAhead}
 use Rattle.chain_laws.specs.Standing.{after_base, stands, has_all, IsUnder}
 
@@ -145,19 +146,6 @@ batch_of newest base place m stop len history agreed fits under ahead =
     subst (λ (n : List Slip). Batch n older base place m stop) whole
     (batch_go more older base place m stop (subst IsHistory (sym whole) history) (subst ClaimsAgree (sym whole) agreed)
     fits (subst (λ (n : List Slip). IsUnder n base place.lib) (sym whole) under) ahead)
-
--- what fits at one length fits at a later one
-fits_at_more : (newest : List Slip) (a b : ℕ) → IsHistory newest → ClaimsAgree newest → a ≤ b → b ≤ length newest → (place : Place)
-    → PlaceFits (oldest a newest) place.end place.lib → PlaceFits (oldest b newest) place.end place.lib
-fits_at_more newest a b history agreed le within place fits =
-    let whole = oldest_whole newest b in
-    let rest = take (length newest - b) newest in
-    let h : IsHistory (oldest b newest) = history_older rest (oldest b newest) (subst IsHistory (sym whole) history) in
-    let g : ClaimsAgree (oldest b newest) = agreed_older rest (oldest b newest) (subst IsHistory (sym whole) history) (subst ClaimsAgree (sym whole) agreed) in
-    let parts = oldest_parts newest a b le within in
-    let more = take (b - a) (oldest b newest) in
-    subst (λ (n : List Slip). PlaceFits n place.end place.lib) parts
-    (fits_later more (oldest a newest) (subst IsHistory (sym parts) h) (subst ClaimsAgree (sym parts) g) place.end place.lib fits)
 
 -- all batches of a session
 pub trace_batches : (newest : List Slip) (base : Option BlockRef) (m : Mode) (stop : Option ℕ) (lens : List ℕ) (place : Place) → IsHistory newest → ClaimsAgree newest

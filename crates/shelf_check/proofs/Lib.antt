@@ -7,3 +7,4 @@ mod ShelfFacts
 mod LawFacts
 mod SortedFacts
 mod WholeFacts
+mod NamedFacts

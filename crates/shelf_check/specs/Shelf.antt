@@ -1,12 +1,17 @@
 -- The whole shelf: what is answered to it.
-use Rattle.std.specs.Prelude.{ℕ, ◌≡◌, ◌⊎◌, List, length, Option, None, Some, Result, Ok, Err}
+use Rattle.std.specs.Prelude.{ℕ, ◌≡◌, ◌⊎◌, List, ◌∷◌, ◌++◌, length, Option, None, Some, ⊤, Result, Ok, Err}
 use Rattle.dbin_file.specs.Contents.{told}
 use Rattle.outer_world.specs.Files.{Files}
+use Rattle.outer_world.specs.Shelves.{AreNamesOf}
+use Rattle.one_block.specs.Files.{base_in}
+use Rattle.one_block.specs.declared.faults.StoreFault.{StoreFault}
+use Rattle.one_block.specs.declared.faults.StoreFault.TheVariants.{ShelfFault, ShelfBad, Missing, StoredOther, NameClash, Mem}
 use Rattle.one_block.specs.Layout.{HasLayout, layout_file}
 use Rattle.one_block.specs.declared.file_faults.FileFault.TheVariants.{Bad}
 use Rattle.shelf_check.specs.declared.check.Report.{Report}
 use Rattle.one_block.specs.declared.file_faults.FileFault.{FileFault}
 use Rattle.shelf_check.specs.declared.faults.LoadFault.{LoadFault}
+use Rattle.shelf_check.specs.declared.faults.LoadFault.TheVariants.{Store, KindClash, HistoryFull}
 use Rattle.one_block.specs.declared.forms.Folder.TheVariants.{One, Forked}
 use Rattle.shelf_check.specs.Folders.{Single, IsFolder, kept_after}
 use Rattle.shelf_check.specs.Folders.{IsFirstIn as IsFirstInFolder}
@@ -79,3 +84,31 @@ IsGoodShelf (Some files) report = IsGood (Some files) report
 abbrev pub IsReported : Report → ℕ → ℕ → Result Report LoadFault → Type 0
 IsReported report before now (Ok found) = found ≡ report
 IsReported report before now (Err fault) = Refused (λ name f. ⊥) before now fault
+
+-- the shelf listed this name in a folder
+pub record IsListed (files : Option Files) (name : List ℕ) : Type 0 where
+  pub folder : List ℕ
+  pub names : List (List ℕ)
+  pub front : List (List ℕ)
+  pub more : List (List ℕ)
+  pub listed : AreNamesOf files folder names
+  pub names_are : names ≡ front ++ name ∷ more
+
+-- the name of the layout, a name that the shelf listed, or that of a file of merged blocks
+abbrev pub IsKnownName : Option Files → List ℕ → Type 0
+IsKnownName files name = (name ≡ layout_file) ⊎ (IsListed files name ⊎ ((size : ℕ) × (base : ℕ) × (base_in size name ≡ Some base)))
+
+-- a file that is bad has such a name
+abbrev pub IsKnownCause : Option Files → StoreFault → Type 0
+IsKnownCause files ShelfFault = ⊤
+IsKnownCause files (ShelfBad name at) = IsKnownName files name
+IsKnownCause files (Missing name) = IsKnownName files name
+IsKnownCause files (StoredOther kept read) = ⊤
+IsKnownCause files (NameClash held offered) = ⊤
+IsKnownCause files Mem = ⊤
+
+-- the same of what is answered
+abbrev pub IsKnownRefusal : Option Files → LoadFault → Type 0
+IsKnownRefusal files (Store fault) = IsKnownCause files fault
+IsKnownRefusal files (KindClash held offered) = ⊤
+IsKnownRefusal files (HistoryFull len need) = ⊤

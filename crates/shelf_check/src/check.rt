@@ -1,8 +1,8 @@
 //! The whole shelf.
 
-ghost use Rattle.std.specs.Prelude.{◌≡◌, ◌≤◌};
+ghost use Rattle.std.specs.Prelude.{◌≡◌, ◌≤◌, IfErr};
 ghost use Rattle.shelf_check.specs.declared.check.Report.{Report as Numbers};
-ghost use Rattle.shelf_check.specs.Shelf.{CheckAnswers, IsGoodShelf, IsReported};
+ghost use Rattle.shelf_check.specs.Shelf.{CheckAnswers, IsGoodShelf, IsKnownRefusal, IsReported};
 
 use crate::faults::LoadFault;
 use crate::folders::check_folder;
@@ -32,6 +32,7 @@ pub fn check_shelf<S: Shelf>(alloc: Global, shelf: &mut S) -> Result<Report, Loa
         (S.shelf_faults shelf.old) (S.shelf_faults shelf.new) result }
     ensures good { (numbers : Numbers) → IsGoodShelf (S.files shelf.old) numbers →
         IsReported numbers (S.shelf_faults shelf.old) (S.shelf_faults shelf.new) result }
+    ensures named { IfErr result (IsKnownRefusal (S.files shelf.old)) }
     ensures files { S.files shelf.new ≡ S.files shelf.old }
     ensures staged { S.staged shelf.new ≡ S.staged shelf.old }
     ensures later { S.shelf_faults shelf.old ≤ S.shelf_faults shelf.new }

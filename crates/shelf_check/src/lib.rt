@@ -14,6 +14,3 @@ pub use check::{Report, check_shelf};
 pub use faults::{LoadFault, ReadFault};
 pub use laws::good_files_are_taken;
 pub use singles::check_single;
-
-#[cfg(test)]
-mod tests;

@@ -8,8 +8,6 @@ mod parse;
 mod print;
 mod read;
 mod refs;
-#[cfg(test)]
-mod tests;
 
 pub use cursor::{Cursor, CursorFault, MisfitField, Request, Tail};
 pub use laws::printed_is_read;

@@ -16,7 +16,7 @@ use Rattle.fire_lines.specs.Parts.{parts, words, without_cr}
 use Rattle.fire_lines.specs.Fields.{field, id_of, parent_num_of, payload_of, slip_of_fields, at_line, ◌>>=◌}
 use Rattle.fire_lines.specs.Line.{Saying, passes, opens, brings, is_bad, kind_of, init_says, fields_say, block_says, words_say, is_fire, says}
 use Rattle.fire_lines.specs.Text.{Received, then_receive, next_line, receive}
-use Rattle.fire_lines.proofs.FieldFacts.{after_num, after_id, after_parent_num, after_parent_id, after_lib_num, after_time, after_payload, none_read}
+use Rattle.fire_lines.proofs.public.FieldFacts.{after_num, after_id, after_parent_num, after_parent_id, after_lib_num, after_time, after_payload, none_read}
 use Rattle.relay_model.specs.Soundness.{IsBlock}
 use Rattle.step_laws.specs.Laws.{LinesBringBlocks}
 

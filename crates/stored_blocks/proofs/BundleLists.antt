@@ -14,7 +14,7 @@ use Rattle.bundle_model.proofs.public.MemberFacts.{among_all, all_among, filter_
 use Rattle.bundle_model.proofs.public.Climbs.{Climbs, ltb_no}
 use Rattle.stored_blocks.specs.Stored.{front_count}
 use Rattle.stored_blocks.specs.BundlePlans.{open_until}
-use Rattle.stored_blocks.proofs.OnceFacts.{climb_before, slice_among}
+use Rattle.stored_blocks.proofs.OnceFacts.{climb_before}
 
 -- from a base on, up to an end: these are the blocks within, unless one of them is stored
 pub open_within : (q : Slip → Bool) (size base : ℕ) (xs : List Slip) → Climbs xs → AllByRecursion (λ s. base ≤ s.num) xs

@@ -2,7 +2,7 @@
 use Rattle.std.proofs.Common.{arith, ◌≡◌, ◌≤◌, ◌<◌, ◌+◌, inl, inr, ℕ, zero, suc, Bool, true, false, not, cond, List, [], ◌∷◌, ◌++◌, length, take, reverse, Option, Some, None, refl, sym, ◌∙◌, ap, subst, ◌&&◌, ◌||◌, IfSome, eqb-true, eq-eqb}
 use Rattle.std.specs.List.{filter, find, slice_get}
 use Rattle.std.proofs.lemmas.Bool.{both_ways, false_from_ne_true}
-use Rattle.std.proofs.lemmas.List.{reverse-append, take-append-le}
+use Rattle.std.proofs.lemmas.List.{reverse-append}
 use Rattle.std.proofs.lemmas.Option.{same_Some}
 use Rattle.std.proofs.Math.Dec.{eqb}
 use Rattle.std.proofs.Math.Seq.{take-append_seam}
@@ -29,7 +29,7 @@ use Rattle.stored_blocks.specs.Places.{Adds, Drops}
 use Rattle.stored_blocks.specs.Stored.{Index, HasTaken, HasBegun, HasGrown, HasReleased, IsIndex, ArePassing, RestIsOff, front_count, gone_places, is_given_up, is_gone, is_off, is_past, next_stored}
 use Rattle.stored_blocks.proofs.public.PassingFacts.{numbered, next_passing, fewer_passing}
 use Rattle.stored_blocks.proofs.public.HeldFacts.{given_up_more, given_up_same, has_among}
-use Rattle.stored_blocks.proofs.OnceFacts.{history_once, finals_once, final_there, front_lacks, take_more, slice_among, other_ids, filter_one_more, find_one_more, newer_lacks, slip_at_older}
+use Rattle.stored_blocks.proofs.OnceFacts.{history_once, finals_once, final_there, front_lacks, take_more, other_ids, filter_one_more, find_one_more, newer_lacks, slip_at_older}
 use Rattle.stored_blocks.proofs.public.PathFacts.{count_low, count_on, count_past, count_off, count_mono, count_same, filter_same, find_same, filter_push, off_push, off_stored}
 
 -- the next block

@@ -12,7 +12,7 @@ use Rattle.indexmap.specs.IndexSet.{insert_key}
 use Rattle.chain_model.specs.Ancestry.{has_id}
 use Rattle.wait_room.specs.Keys.{same_key}
 use Rattle.wait_room.specs.Rooms.{children_in, slips_of, waiting_of}
-use Rattle.wait_room.proofs.RoomFacts.{put_last}
+use Rattle.wait_room.proofs.public.RoomFacts.{put_last}
 use Rattle.wait_room.proofs.TurnedFacts.{filter_turned}
 
 -- what is counted where one count was put

@@ -6,8 +6,6 @@ mod holds;
 mod numbers;
 mod room;
 mod scans;
-#[cfg(test)]
-mod tests;
 mod waiters;
 
 pub use holds::Holds;

@@ -8,15 +8,10 @@ use Rattle.block_record.specs.declared.faults.RecordFault.TheVariants.{BadRecord
 use Rattle.block_record.specs.Reading.{bad_place}
 use Rattle.block_record.specs.Words.{Unless}
 use Rattle.block_record.specs.Records.{record_fault, IsRecordable, IsRecordText}
-use Rattle.dbin_file.specs.Header.{header_fault, header_size}
 use Rattle.dbin_file.specs.Contents.{contents}
 use Rattle.dbin_file.specs.Reader.{AreFurther}
+use Rattle.dbin_file.proofs.public.FurtherFacts.{no_messages}
 use Rattle.one_block.specs.Containers.{IsRecordOf, ReadRefused}
-
--- no text has no messages
-pub no_messages : (contents []).messages ≡ []
-unfolding header_fault header_size
-no_messages = refl
 
 -- so all messages of a text are further ones
 pub all_messages : (text : List ℕ) (more : List (List ℕ)) → AreFurther [] text more → more ≡ (contents text).messages

@@ -74,10 +74,10 @@ without_front-is front text rest e = by_test (bytes_eq (take (length front) text
         let same : drop (length front) text ≡ rest = some_is _ rest e in
         sym (take-append-drop (length front) text) ∙ ap (λ (l : List ℕ). take (length front) text ++ l) same ∙ ap (λ (l : List ℕ). l ++ rest) start
 
-then_is : {A B : Type 0} (f : A → Option B) (o : Option A) (x : A) → o ≡ Some x → option_and_then f o ≡ f x
+pub then_is : {A B : Type 0} (f : A → Option B) (o : Option A) (x : A) → o ≡ Some x → option_and_then f o ≡ f x
 then_is f o x e = ap (option_and_then f) e
 
-then_took : {A B : Type 0} (f : A → Option B) (o : Option A) (y : B) → option_and_then f o ≡ Some y → (x : A) × ((o ≡ Some x) × (f x ≡ Some y))
+pub then_took : {A B : Type 0} (f : A → Option B) (o : Option A) (y : B) → option_and_then f o ≡ Some y → (x : A) × ((o ≡ Some x) × (f x ≡ Some y))
 then_took f None y e = absurd (cc e)
 then_took f (Some x) y e = (x, (refl, e))
 

@@ -1,83 +1,30 @@
 -- The name with some parts is read as the parts, and a text that is read is the name with its parts.
-use Rattle.std.proofs.Common.{◌≡◌, ℕ, zero, suc, ◌-◌, ◌^◌, ◌<◌, Bool, true, false, ◌&&◌, cond, eqb, nat_lt, nat_le, List, [], ◌∷◌, ◌++◌, length, drop, replicate, Option, None, Some, refl, sym, ap, subst, ◌∙◌, arith, option_and_then}
-use Rattle.std.specs.Prelude.{slice_get, All}
+use Rattle.std.proofs.Common.{◌≡◌, ℕ, zero, suc, ◌-◌, Bool, true, false, ◌&&◌, cond, eqb, nat_lt, nat_le, List, [], ◌∷◌, ◌++◌, length, drop, Option, None, Some, refl, sym, ap, subst, ◌∙◌, arith, option_and_then}
+use Rattle.std.specs.Prelude.{slice_get}
 use Rattle.std.specs.Fmt.{decimal}
-use Rattle.std.specs.Char.{is_ascii_digit}
 use Rattle.std.specs.List.{slice_split, join_with_byte, list_all}
-use Rattle.std.proofs.lemmas.Bool.{and_parts, eqb-true, le-leb, lt-ltb, ltb-true, false≢true}
+use Rattle.std.proofs.lemmas.Bool.{and_parts, eqb-true, le-leb, lt-ltb, ltb-true}
 use Rattle.std.proofs.lemmas.List.{length-drop}
-use Rattle.std.proofs.lemmas.List.Elements.{All-append, All-cons, All-replicate}
-use Rattle.std.proofs.lemmas.List.Sums.{AllPass-from_list_all}
 use Rattle.std.proofs.lemmas.List.Splits.{join_with_byte-slice_split, slice_split_none, slice_split_at}
 use Rattle.block_record.specs.declared.blocks.Slip.{Slip}
 use Rattle.block_record.specs.Number.{number_of}
-use Rattle.block_record.specs.Texts.{is_id_text, is_id_byte, is_reader_text, is_reader_byte}
-use Rattle.block_record.proofs.public.NumberTexts.{decimal_digits, number_of-decimal, decimal-number_of}
-use Rattle.one_block.specs.declared.moments.Moment.{Moment}
+use Rattle.block_record.specs.Texts.{is_id_text, is_id_byte, is_reader_text}
+use Rattle.block_record.proofs.public.NumberTexts.{number_of-decimal, decimal-number_of}
 use Rattle.one_block.specs.declared.names.NameParts.{NameParts}
-use Rattle.one_block.specs.Moments.{moment_of, day_text, clock_text, moment_text, IsTimely}
+use Rattle.one_block.specs.Moments.{moment_of, moment_text}
 use Rattle.one_block.specs.Numerals.{padded, filled_number}
 use Rattle.one_block.specs.Names.{id_end, name_words, name_text, parts_of, is_id_end, passing, word_at, parts_named, name_parts, IsName, IsNamed}
 use Rattle.one_block.specs.Reading.{tenths_named, ◌>>=◌}
 use Rattle.one_block.specs.Laws.{NamesAreRead}
 use Rattle.one_block.proofs.public.NumeralFacts.{filled_number-padded, padded-filled_number}
-use Rattle.one_block.proofs.MomentFacts.{tenths_named-moment_text, moment_text-tenths_named, small_parts, step_is, step_took}
+use Rattle.one_block.proofs.MomentFacts.{tenths_named-moment_text, moment_text-tenths_named, step_is, step_took}
+use Rattle.one_block.proofs.WordFacts.{Lacks, dash_outside, lacks_padded, lacks_moment, lacks_end, lacks_decimal, lacks_reader}
 use Rattle.one_block.proofs.public.OptionFacts.{some_is}
-
--- ---- words without a dash
-
-abbrev NotDash : ℕ → Type 0
-NotDash b = eqb b 45 ≡ false
-
-abbrev NoDash : List ℕ → Type 0
-NoDash word = All NotDash word
-
--- a byte that passes a test which a dash doesn't pass
-no_dash : (q : ℕ → Bool) (b : ℕ) → q 45 ≡ false → q b ≡ true → eqb b 45 ≡ false
-no_dash q b fails passes = by_test (eqb b 45) refl
-  where
-    by_test : (t : Bool) → eqb b 45 ≡ t → t ≡ false
-    by_test false is = refl
-    by_test true is = absurd (false≢true (sym fails ∙ ap q (sym (eqb-true b 45 is)) ∙ passes))
-
-no_dashes : (q : ℕ → Bool) (word : List ℕ) → q 45 ≡ false → list_all q word ≡ true → NoDash word
-no_dashes q word fails passes k d less = no_dash q _ fails (AllPass-from_list_all q word passes k d less)
-
-no_dash_decimal : (n : ℕ) → n < 2 ^ 64 → NoDash (decimal n)
-no_dash_decimal n small = no_dashes is_ascii_digit (decimal n) refl (decimal_digits n small)
-
-no_dash_padded : (width n : ℕ) → n < 2 ^ 64 → NoDash (padded width n)
-no_dash_padded width n small = All-append NotDash (replicate (width - length (decimal n)) 48) (decimal n) (All-replicate NotDash (width - length (decimal n)) 48 refl) (no_dash_decimal n small)
-
-no_dash_day : (y m d : ℕ) → y < 2 ^ 64 → m < 2 ^ 64 → d < 2 ^ 64 → NoDash (padded 4 y ++ (padded 2 m ++ padded 2 d))
-no_dash_day y m d sy sm sd = All-append NotDash (padded 4 y) (padded 2 m ++ padded 2 d) (no_dash_padded 4 y sy) (All-append NotDash (padded 2 m) (padded 2 d) (no_dash_padded 2 m sm) (no_dash_padded 2 d sd))
-
-no_dash_clock : (h m s t : ℕ) → h < 2 ^ 64 → m < 2 ^ 64 → s < 2 ^ 64 → t < 2 ^ 64 → NoDash (padded 2 h ++ (padded 2 m ++ (padded 2 s ++ 46 ∷ padded 1 t)))
-no_dash_clock h m s t sh sm ss st =
-    All-append NotDash (padded 2 h) (padded 2 m ++ (padded 2 s ++ 46 ∷ padded 1 t)) (no_dash_padded 2 h sh)
-    (All-append NotDash (padded 2 m) (padded 2 s ++ 46 ∷ padded 1 t) (no_dash_padded 2 m sm)
-    (All-append NotDash (padded 2 s) (46 ∷ padded 1 t) (no_dash_padded 2 s ss) (All-cons NotDash 46 (padded 1 t) refl (no_dash_padded 1 t st))))
-
-no_dash_moment : (t : ℕ) → IsTimely t → NoDash (moment_text (moment_of t))
-no_dash_moment t timely =
-    let m : Moment = moment_of t in
-    let s = small_parts t timely in
-    All-append NotDash (day_text m.day) (84 ∷ clock_text m.clock) (no_dash_day m.day.year m.day.month m.day.day s.year s.month s.day)
-    (All-cons NotDash 84 (clock_text m.clock) refl (no_dash_clock m.clock.hour m.clock.minute m.clock.second m.clock.tenth s.hour s.minute s.second s.tenth))
-
-id_bytes : (text : List ℕ) → is_id_text text ≡ true → list_all is_id_byte text ≡ true
-id_bytes text e = (and_parts (nat_lt 0 (length text) && nat_le (length text) 128) (list_all is_id_byte text) e).1
-
-no_dash_end : (text : List ℕ) → is_id_end text ≡ true → NoDash text
-no_dash_end text e = no_dashes is_id_byte text refl (id_bytes text (and_parts (is_id_text text) (nat_le (length text) 16) e).0)
-
-no_dash_reader : (text : List ℕ) → is_reader_text text ≡ true → NoDash text
-no_dash_reader text e = no_dashes is_reader_byte text refl (and_parts (nat_lt 0 (length text) && nat_le (length text) 64) (list_all is_reader_byte text) e).1
 
 -- ---- six words
 
 -- six words joined are cut again
-cut_again : (a b c d e f : List ℕ) → NoDash a → NoDash b → NoDash c → NoDash d → NoDash e → NoDash f
+cut_again : (a b c d e f : List ℕ) → Lacks 45 a → Lacks 45 b → Lacks 45 c → Lacks 45 d → Lacks 45 e → Lacks 45 f
     → slice_split (λ x. eqb x 45) (join_with_byte 45 (a ∷ b ∷ c ∷ d ∷ e ∷ f ∷ [])) ≡ a ∷ b ∷ c ∷ d ∷ e ∷ f ∷ []
 cut_again a b c d e f na nb nc nd ne nf =
     let dash : ℕ → Bool = λ x. eqb x 45 in
@@ -171,7 +118,8 @@ parts_named-name_words p is =
 pub name_again : (p : NameParts) → IsName p → name_parts (name_text p) ≡ Some p
 name_again p is =
     ap parts_named (cut_again (padded 10 p.num) (moment_text (moment_of p.tenths)) p.id_end p.parent_end (decimal p.lib_num) p.reader
-    (no_dash_padded 10 p.num is.num) (no_dash_moment p.tenths is.tenths) (no_dash_end p.id_end is.id_end) (no_dash_end p.parent_end is.parent_end) (no_dash_decimal p.lib_num is.lib_num) (no_dash_reader p.reader is.reader))
+    (lacks_padded 45 10 p.num dash_outside is.num) (lacks_moment 45 p.tenths dash_outside is.tenths) (lacks_end 45 p.id_end dash_outside is.id_end) (lacks_end 45 p.parent_end dash_outside is.parent_end)
+    (lacks_decimal 45 p.lib_num dash_outside is.lib_num) (lacks_reader 45 p.reader dash_outside is.reader))
     ∙ parts_named-name_words p is
 
 whole_is : (ws : List (List ℕ)) (x p : NameParts) → whole ws x ≡ Some p → (length ws ≡ 6) × (x ≡ p)

@@ -1,4 +1,4 @@
-use Rattle.relay_laws.proofs.Scratch.{tip_from_scratch}
+use Rattle.relay_laws.proofs.public.Scratch.{tip_from_scratch}
 use Rattle.relay_laws.proofs.tip_from_scratch.Goals as goal
 
 pub returns : goal.returns

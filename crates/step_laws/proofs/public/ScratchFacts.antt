@@ -16,9 +16,9 @@ use Rattle.relay_model.specs.Orders.{once, linked_order}
 use Rattle.relay_model.specs.Runs.{run}
 use Rattle.relay_model.proofs.public.Sound.{empty_sound}
 use Rattle.relay_laws.specs.Laws.{Matches, MatchesTip, IsOrderly}
-use Rattle.relay_laws.proofs.RunSteps.{run_of}
-use Rattle.relay_laws.proofs.Scratch.{tip_from_scratch}
-use Rattle.relay_laws.proofs.FromScratch.{from_scratch}
+use Rattle.relay_laws.proofs.public.RunSteps.{run_of}
+use Rattle.relay_laws.proofs.public.Scratch.{tip_from_scratch}
+use Rattle.relay_laws.proofs.public.FromScratch.{from_scratch}
 use Rattle.step_text.specs.declared.refusals.Refusal.{Refusal}
 use Rattle.step_text.specs.Limits.{line_max, step_limits, new_world}
 use Rattle.step_text.specs.StepText.{tell, whole, ending_of}

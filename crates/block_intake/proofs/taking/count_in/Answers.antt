@@ -1,6 +1,6 @@
 use Rattle.std.proofs.Common.{arith, ◌≤◌, length}
 use Rattle.relay_model.specs.Worlds.{descendants, descends}
-use Rattle.wait_room.proofs.RoomFacts.{length_filtered}
+use Rattle.wait_room.proofs.public.RoomFacts.{length_filtered}
 use Rattle.block_intake.proofs.taking.count_in.Goals as goal
 
 pub returns-clause-small : goal.returns-clause-small

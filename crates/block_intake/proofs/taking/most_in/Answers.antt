@@ -1,6 +1,6 @@
 use Rattle.std.proofs.Common.{arith, ◌≡◌, ◌≤◌, length, sym, ◌∙◌}
 use Rattle.relay_model.specs.Worlds.{descendants, descends}
-use Rattle.wait_room.proofs.RoomFacts.{length_filtered, no_descendants}
+use Rattle.wait_room.proofs.public.RoomFacts.{length_filtered, no_descendants}
 use Rattle.block_intake.proofs.taking.most_in.Goals as goal
 
 pub returns-then-has_child-clause-most : goal.returns-then-has_child-clause-most

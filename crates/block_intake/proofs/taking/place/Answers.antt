@@ -10,7 +10,7 @@ use Rattle.block_intake.specs.Taking.{dropped_after, history_after}
 use Rattle.block_intake.proofs.JudgedFacts.{fits_child, some_is}
 use Rattle.block_intake.proofs.TakingFacts.{holds_one, holds_same, kept_some}
 use Rattle.wait_room.specs.Rooms.{linked_in}
-use Rattle.wait_room.proofs.LinkedFacts.{linked_more}
+use Rattle.wait_room.proofs.public.LinkedFacts.{linked_more}
 use Rattle.block_intake.proofs.taking.place.Goals as goal
 
 pub unwrap-parent-requires : goal.unwrap-parent-requires

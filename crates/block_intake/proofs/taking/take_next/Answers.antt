@@ -5,7 +5,7 @@ use Rattle.block_record.specs.declared.blocks.Slip.{Slip}
 use Rattle.std.specs.Option.{option_map}
 use Rattle.chain_model.specs.Ancestry.{has_id}
 use Rattle.wait_room.specs.Rooms.{Room, linked_in, room_without}
-use Rattle.wait_room.proofs.RoomFacts.{length_filtered}
+use Rattle.wait_room.proofs.public.RoomFacts.{length_filtered}
 use Rattle.relay_model.specs.Worlds.{next_waiting, without}
 use Rattle.relay_model.specs.Offers.{Intake, clash, take_one}
 use Rattle.relay_model.proofs.public.Intakes.{next_is}

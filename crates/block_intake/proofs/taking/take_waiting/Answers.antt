@@ -2,7 +2,7 @@ use Rattle.std.proofs.Common.{arith, ◌≡◌, ◌-◌, ◌+◌, suc, None, len
 use Rattle.relay_model.specs.Worlds.{next_waiting}
 use Rattle.relay_model.specs.Offers.{take_in}
 use Rattle.relay_model.proofs.public.Intakes.{stays}
-use Rattle.wait_room.proofs.LinkedFacts.{none_next}
+use Rattle.wait_room.proofs.public.LinkedFacts.{none_next}
 use Rattle.block_intake.specs.Taking.{intake_of}
 use Rattle.block_intake.proofs.TakingFacts.{limits_twice, stays_twice}
 use Rattle.block_intake.proofs.taking.take_waiting.Goals as goal

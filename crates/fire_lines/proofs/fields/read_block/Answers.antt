@@ -2,7 +2,7 @@ use Rattle.std.proofs.Common.{ℕ, List, take, sym, ap, ◌∙◌}
 use Rattle.block_record.specs.Number.{number_of}
 use Rattle.fire_lines.specs.Parts.{words_left}
 use Rattle.fire_lines.specs.Fields.{id_of, parent_num_of, payload_of}
-use Rattle.fire_lines.proofs.FieldFacts.{none_read, one_more, one_bad, bad_field, too_many, all_read, short_payload, after_num, after_id, after_parent_num, after_parent_id, after_lib_num, after_time, after_payload}
+use Rattle.fire_lines.proofs.public.FieldFacts.{none_read, one_more, one_bad, bad_field, too_many, all_read, short_payload, after_num, after_id, after_parent_num, after_parent_id, after_lib_num, after_time, after_payload}
 use Rattle.fire_lines.proofs.fields.read_block.Goals as goal
 
 pub returns-in_err-num : goal.returns-in_err-num

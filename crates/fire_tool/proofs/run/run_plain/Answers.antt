@@ -1,6 +1,6 @@
 use Rattle.std.proofs.Common.{map, sym, ◌∙◌}
 use Rattle.command_io.specs.Streams.{shelf_at, source_at}
-use Rattle.fire_tool.proofs.CursorFacts.{check_words, cursor_words}
+use Rattle.fire_tool.proofs.WordFacts.{check_words, cursor_words}
 use Rattle.fire_tool.proofs.run.run_plain.Goals as goal
 
 pub returns-then-is_check-clause-run : goal.returns-then-is_check-clause-run
@@ -11,4 +11,4 @@ returns-then-is_check-clause-run g c =
 pub returns-in-Some-clause-run : goal.returns-in-Some-clause-run
 returns-in-Some-clause-run g c =
     cursor_words (map (λ w. w.items) c.args.words.now) c.in-Some.text.now (shelf_at g.S.Shelf c.args.shelf.now) (shelf_at g.S.Shelf c.args.shelf.now) _ _ _
-    (sym c.is_check.ensures ∙ c.if-is_check.false) c.in-Some.ensures (c.run_cursor_command.ensures (source_at g.I.Source c.args.input.now))
+    (sym c.is_check.ensures ∙ c.if-is_check.false) c.in-Some.ensures (c.run_cursor.ensures (source_at g.I.Source c.args.input.now))

@@ -1,5 +1,5 @@
 use Rattle.std.proofs.Common.{arith}
-use Rattle.outer_world.proofs.Fronts.{grew_more}
+use Rattle.outer_world.proofs.public.Fronts.{grew_more}
 use Rattle.outer_world.proofs.calls.write_whole.Goals as goal
 
 pub loop-rest-preserved : goal.loop-rest-preserved

@@ -10,6 +10,7 @@ use Rattle.shelf_check.specs.Shelf.{IsFirstFault}
 use Rattle.shelf_check.proofs.RefusalFacts.{refused_on}
 use Rattle.shelf_check.proofs.ShelfFacts.{layout_refused, in_merged, in_one, in_forked, whole_good}
 use Rattle.shelf_check.proofs.WholeFacts.{good_answer}
+use Rattle.shelf_check.proofs.NamedFacts.{known_answer}
 use Rattle.shelf_check.proofs.check.check_shelf.Goals as goal
 
 pub returns-in_err-size-clause-answer : goal.returns-in_err-size-clause-answer
@@ -82,3 +83,23 @@ pub returns-clause-good : goal.returns-clause-good
 returns-clause-good g c =
     good_answer (g.S.Shelf.files c.args.shelf.now) (g.S.Shelf.shelf_faults c.args.shelf.now) (g.S.Shelf.shelf_faults c.check_folder-2.new.shelf)
     (Ok (record { bundles = c.in_ok-bundles.bundles; blocks = c.in_ok-bundles.merged.blocks; one = c.in_ok-one.one.files; forked = c.in_ok-forked.forked.files })) (returns-clause-answer g c)
+
+pub returns-in_err-size-clause-named : goal.returns-in_err-size-clause-named
+returns-in_err-size-clause-named g c =
+    known_answer (g.S.Shelf.files c.args.shelf.now) (g.S.Shelf.shelf_faults c.args.shelf.now) (g.S.Shelf.shelf_faults c.read_layout.new.shelf) c.from_residual.result
+    (returns-in_err-size-clause-answer g c)
+
+pub returns-in_err-bundles-clause-named : goal.returns-in_err-bundles-clause-named
+returns-in_err-bundles-clause-named g c =
+    known_answer (g.S.Shelf.files c.args.shelf.now) (g.S.Shelf.shelf_faults c.args.shelf.now) (g.S.Shelf.shelf_faults c.check_merged.new.shelf) c.from_residual-in_err-bundles.result
+    (returns-in_err-bundles-clause-answer g c)
+
+pub returns-in_err-one-clause-named : goal.returns-in_err-one-clause-named
+returns-in_err-one-clause-named g c =
+    known_answer (g.S.Shelf.files c.args.shelf.now) (g.S.Shelf.shelf_faults c.args.shelf.now) (g.S.Shelf.shelf_faults c.check_folder.new.shelf) c.from_residual-in_err-one.result
+    (returns-in_err-one-clause-answer g c)
+
+pub returns-in_err-forked-clause-named : goal.returns-in_err-forked-clause-named
+returns-in_err-forked-clause-named g c =
+    known_answer (g.S.Shelf.files c.args.shelf.now) (g.S.Shelf.shelf_faults c.args.shelf.now) (g.S.Shelf.shelf_faults c.check_folder-2.new.shelf) c.from_residual-in_err-forked.result
+    (returns-in_err-forked-clause-answer g c)

@@ -1,5 +1,5 @@
 use Rattle.std.proofs.Common.{sym, ◌∙◌}
-use Rattle.wait_room.proofs.LinkedFacts.{only_next}
+use Rattle.wait_room.proofs.public.LinkedFacts.{only_next}
 use Rattle.wait_room.proofs.scans.only_linked.Goals as goal
 
 pub returns-clause-least : goal.returns-clause-least

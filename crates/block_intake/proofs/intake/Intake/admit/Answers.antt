@@ -4,7 +4,7 @@ use Rattle.relay_model.specs.Worlds.{descendants}
 use Rattle.relay_model.specs.Offers.{Admitted, answer_by, judge, world_by}
 use Rattle.relay_model.specs.Verdicts as verdict
 use Rattle.block_intake.specs.Intakes.{TakenIn, taken_in, unnoted, world_taken}
-use Rattle.block_intake.proofs.IntakeFacts.{admitted_sound, admitted_world, brings, brings_most, brings_some, own_parts, said_after}
+use Rattle.block_intake.proofs.public.IntakeFacts.{admitted_sound, admitted_world, brings, brings_most, brings_some, own_parts, said_after}
 use Rattle.block_intake.proofs.intake.Intake.admit.Goals as goal
 
 pub admit_with_followers-requires-clause-can : goal.admit_with_followers-requires-clause-can

@@ -3,7 +3,7 @@ use Rattle.block_record.specs.SlipRefs.{slip_seen}
 use Rattle.relay_model.specs.Offers.{judge}
 use Rattle.block_intake.specs.Intakes.{TakenIn, taken_in, world_taken}
 use Rattle.block_intake.specs.Judged.{verdict_of_judged}
-use Rattle.block_intake.proofs.IntakeFacts.{own_parts}
+use Rattle.block_intake.proofs.public.IntakeFacts.{own_parts}
 use Rattle.block_intake.proofs.intake.Intake.judge.Goals as goal
 
 pub returns-clause-rule : goal.returns-clause-rule

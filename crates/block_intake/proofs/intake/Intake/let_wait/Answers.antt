@@ -2,7 +2,7 @@ use Rattle.std.proofs.Common.{◌≡◌, refl, sym, subst}
 use Rattle.relay_model.specs.Offers.{judge, world_by}
 use Rattle.relay_model.specs.Verdicts as verdict
 use Rattle.block_intake.specs.Intakes.{TakenIn, taken_in, world_taken}
-use Rattle.block_intake.proofs.IntakeFacts.{fits_room, lacks_room, waits_sound, waits_world}
+use Rattle.block_intake.proofs.public.IntakeFacts.{fits_room, lacks_room, waits_sound, waits_world}
 use Rattle.block_intake.proofs.intake.Intake.let_wait.Goals as goal
 
 pub put-requires-clause-fits : goal.put-requires-clause-fits

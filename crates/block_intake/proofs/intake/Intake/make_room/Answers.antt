@@ -1,6 +1,6 @@
 use Rattle.std.proofs.Common.{refl, ◌∙◌}
 use Rattle.block_intake.specs.Intakes.{IsUnchanged, taken_in}
-use Rattle.block_intake.proofs.IntakeFacts.{unchanged_sound}
+use Rattle.block_intake.proofs.public.IntakeFacts.{unchanged_sound}
 use Rattle.block_intake.proofs.intake.Intake.make_room.Goals as goal
 
 pub invariant_of-self : goal.invariant_of-self

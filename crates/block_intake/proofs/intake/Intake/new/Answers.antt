@@ -1,5 +1,5 @@
 use Rattle.block_intake.specs.Intakes.{taken_in}
-use Rattle.block_intake.proofs.IntakeFacts.{opened_sound, opened_world}
+use Rattle.block_intake.proofs.public.IntakeFacts.{opened_sound, opened_world}
 use Rattle.block_intake.proofs.intake.Intake.new.Goals as goal
 
 pub invariant_of-result : goal.invariant_of-result

@@ -8,7 +8,7 @@ use Rattle.block_intake.specs.declared.answers.Offered.TheVariants as answer
 use Rattle.block_intake.specs.declared.answers.OfferFault.TheVariants as fault
 use Rattle.block_intake.specs.Intakes.{IsOffered, IsUnchanged, world_taken}
 use Rattle.block_intake.specs.Judged.{verdict_of_judged}
-use Rattle.block_intake.proofs.IntakeFacts.{no_memory, stays_offered, unchanged_same}
+use Rattle.block_intake.proofs.public.IntakeFacts.{no_memory, stays_offered, unchanged_same}
 use Rattle.block_intake.proofs.intake.Intake.take.Goals as goal
 
 pub returns-in-WaitFull : goal.returns-in-WaitFull

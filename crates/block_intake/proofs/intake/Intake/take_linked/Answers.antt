@@ -7,7 +7,7 @@ use Rattle.relay_model.specs.Worlds.{World}
 use Rattle.relay_model.specs.Offers.{judge}
 use Rattle.relay_model.specs.Verdicts as verdict
 use Rattle.block_intake.specs.Intakes.{IsOffered, world_taken}
-use Rattle.block_intake.proofs.IntakeFacts.{admitted_offer, refused_room, takes_rule, unchanged_world}
+use Rattle.block_intake.proofs.public.IntakeFacts.{admitted_offer, refused_room, takes_rule, unchanged_world}
 use Rattle.block_intake.proofs.intake.Intake.take_linked.Goals as goal
 
 pub admit-from-requires-clause-takes : goal.admit-from-requires-clause-takes

@@ -1,7 +1,7 @@
 use Rattle.std.proofs.Common.{◌∙◌, ap, length}
 use Rattle.relay_model.specs.Worlds.{room_bytes}
 use Rattle.block_intake.specs.Intakes.{TakenIn}
-use Rattle.block_intake.proofs.IntakeFacts.{full_answer}
+use Rattle.block_intake.proofs.public.IntakeFacts.{full_answer}
 use Rattle.block_intake.proofs.intake.Intake.wait_full.Goals as goal
 
 pub returns : goal.returns

@@ -1,7 +1,7 @@
 use Rattle.std.proofs.Common.{is_some, ap, ◌∙◌}
 use Rattle.chain_model.specs.Ancestry.{has_id}
 use Rattle.block_intake.specs.Intakes.{TakenIn}
-use Rattle.block_intake.proofs.IntakeFacts.{found_any, some_copied}
+use Rattle.block_intake.proofs.public.IntakeFacts.{found_any, some_copied}
 use Rattle.block_intake.proofs.intake.Intake.waits.Goals as goal
 
 pub returns : goal.returns

@@ -11,8 +11,8 @@ use Rattle.block_intake.specs.declared.answers.Offered.TheVariants as answer
 use Rattle.block_intake.specs.declared.answers.OfferFault.{OfferFault}
 use Rattle.wait_room.specs.Rooms.{AreKept, Room}
 use Rattle.block_intake.specs.Intakes.{unnoted, world_taken}
-use Rattle.block_intake.proofs.AlikeFacts.{answer_alike}
-use Rattle.block_intake.proofs.IntakeFacts.{unchanged_holds, unchanged_world}
+use Rattle.block_intake.proofs.public.AlikeFacts.{answer_alike}
+use Rattle.block_intake.proofs.public.IntakeFacts.{unchanged_holds, unchanged_world}
 use Rattle.block_intake.proofs.TakingFacts.{holds_twice}
 use Rattle.stored_blocks.specs.Stored.{HasGrown, Index, IsIndex}
 use Rattle.block_relay.specs.Held.{AreGone}

@@ -5,7 +5,7 @@ use Rattle.relay_model.specs.Offers.{judge}
 use Rattle.relay_model.specs.Soundness.{IsBlock}
 use Rattle.block_intake.specs.Intakes.{world_taken}
 use Rattle.block_intake.specs.Judged.{IsLinked, verdict_of_judged}
-use Rattle.block_intake.proofs.AlikeFacts.{judge_alike, judged_alike}
+use Rattle.block_intake.proofs.public.AlikeFacts.{judge_alike, judged_alike}
 use Rattle.block_relay.specs.Chronicle.{IsKept, Told, world_told}
 use Rattle.block_relay.proofs.relay.Relay.judge.Goals as goal
 

@@ -6,7 +6,7 @@ use Rattle.relay_model.specs.Verdicts as verdict
 use Rattle.block_intake.specs.Answers.{IsAnswer}
 use Rattle.block_intake.specs.Intakes.{world_taken}
 use Rattle.block_intake.specs.Judged.{verdict_of_judged}
-use Rattle.block_intake.proofs.AlikeFacts.{answer_alike}
+use Rattle.block_intake.proofs.public.AlikeFacts.{answer_alike}
 use Rattle.block_relay.specs.Chronicle.{IsKept, Told, world_told}
 use Rattle.block_relay.proofs.DoneFacts.{stays_told}
 use Rattle.block_relay.proofs.relay.Relay.take.Goals as goal

@@ -1,5 +1,5 @@
 use Rattle.std.proofs.Common.{rules, ◌≡◌, ◌∙◌, ap}
-use Rattle.outer_world.proofs.NameOrder.{in_order-with_file}
+use Rattle.outer_world.proofs.public.NameOrder.{in_order-with_file}
 use Rattle.memory_world.proofs.memory_shelf.MemoryShelfShelf.commit.Goals as goal
 
 pub invariant_of-self : goal.invariant_of-self

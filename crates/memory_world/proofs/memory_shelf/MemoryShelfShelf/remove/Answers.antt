@@ -1,4 +1,4 @@
-use Rattle.outer_world.proofs.NameOrder.{in_order-without_file}
+use Rattle.outer_world.proofs.public.NameOrder.{in_order-without_file}
 use Rattle.memory_world.proofs.memory_shelf.MemoryShelfShelf.remove.Goals as goal
 
 pub invariant_of-self : goal.invariant_of-self

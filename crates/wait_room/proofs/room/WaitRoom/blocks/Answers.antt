@@ -2,7 +2,7 @@ use Rattle.std.proofs.Common.{subst}
 use Rattle.std.specs.List.{AllZip}
 use Rattle.relay_model.specs.Soundness.{IsDistinct}
 use Rattle.wait_room.specs.Rooms.{IsOwnSlip, Room}
-use Rattle.wait_room.proofs.RoomFacts.{distinct_turned, own_slips}
+use Rattle.wait_room.proofs.public.RoomFacts.{distinct_turned, own_slips}
 use Rattle.wait_room.proofs.room.WaitRoom.blocks.Goals as goal
 
 pub returns-clause-own : goal.returns-clause-own

@@ -1,5 +1,5 @@
 use Rattle.std.proofs.Common.{sym, ◌∙◌}
-use Rattle.wait_room.proofs.RoomFacts.{no_descendants}
+use Rattle.wait_room.proofs.public.RoomFacts.{no_descendants}
 use Rattle.wait_room.proofs.room.WaitRoom.descendants.Goals as goal
 
 pub returns-then-not-has_child : goal.returns-then-not-has_child

@@ -1,6 +1,6 @@
 use Rattle.std.proofs.Common.{arith, ◌≡◌, ◌<◌, ◌+◌, ◌-◌, ap, sym, ◌∙◌, length}
 use Rattle.std.specs.Option.{option_copied}
-use Rattle.wait_room.proofs.RoomFacts.{descends_end, descends_on}
+use Rattle.wait_room.proofs.public.RoomFacts.{descends_end, descends_on}
 use Rattle.wait_room.proofs.room.WaitRoom.descends.Goals as goal
 
 pub returns-in-None : goal.returns-in-None

@@ -9,7 +9,7 @@ use Rattle.wait_room.specs.declared.waiters.Waiter.{Waiter}
 use Rattle.wait_room.specs.Rooms.{HasOwnSlip, children_in, room_above, slips_of, waiting_of, held_of}
 use Rattle.wait_room.specs.Numbers.{numbered_in}
 use Rattle.wait_room.proofs.NumberFacts.{all_stay}
-use Rattle.wait_room.proofs.RoomFacts.{above_held, above_waiting, above_slips, bytes_filtered, length_filtered, same_room, where_kept}
+use Rattle.wait_room.proofs.public.RoomFacts.{above_held, above_waiting, above_slips, bytes_filtered, length_filtered, same_room, where_kept}
 use Rattle.wait_room.proofs.room.WaitRoom.drop_through.Goals as goal
 
 pub returns-then-all_above-clause-room : goal.returns-then-all_above-clause-room

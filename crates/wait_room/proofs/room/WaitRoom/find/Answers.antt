@@ -2,7 +2,7 @@ use Rattle.std.proofs.Common.{None, Some, ap, sym, ◌∙◌}
 use Rattle.std.specs.Option.{option_copied}
 use Rattle.chain_model.specs.Ancestry.{find_id}
 use Rattle.wait_room.specs.Rooms.{Room}
-use Rattle.wait_room.proofs.RoomFacts.{found_slip}
+use Rattle.wait_room.proofs.public.RoomFacts.{found_slip}
 use Rattle.wait_room.proofs.room.WaitRoom.find.Goals as goal
 
 pub returns-in-Some : goal.returns-in-Some

@@ -1,7 +1,7 @@
 use Rattle.std.proofs.Common.{ap, sym, ◌∙◌}
 use Rattle.relay_model.specs.Worlds.{room_bytes}
 use Rattle.wait_room.specs.Rooms.{Room}
-use Rattle.wait_room.proofs.RoomFacts.{bytes_turned, fits_by}
+use Rattle.wait_room.proofs.public.RoomFacts.{bytes_turned, fits_by}
 use Rattle.wait_room.proofs.room.WaitRoom.fits.Goals as goal
 
 pub returns-then-blocks-self : goal.returns-then-blocks-self

@@ -11,7 +11,7 @@ use Rattle.wait_room.specs.Keys.{same_key}
 use Rattle.block_record.specs.Ids.{same_id}
 use Rattle.wait_room.specs.Numbers.{same_num}
 use Rattle.wait_room.proofs.CountFacts.{put_one}
-use Rattle.wait_room.proofs.RoomFacts.{bytes_turned, length_filtered, fits_parts, put_in, same_room}
+use Rattle.wait_room.proofs.public.RoomFacts.{bytes_turned, length_filtered, fits_parts, put_in, same_room}
 use Rattle.wait_room.proofs.room.WaitRoom.put.Goals as goal
 
 pub overflow_add-bytes : goal.overflow_add-bytes

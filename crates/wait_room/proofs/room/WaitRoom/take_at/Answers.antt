@@ -10,7 +10,7 @@ use Rattle.block_record.specs.Ids.{same_id, same_id_refl}
 use Rattle.wait_room.specs.Numbers.{numbered_in, same_num}
 use Rattle.wait_room.proofs.NumberFacts.{same_num-self}
 use Rattle.wait_room.proofs.CountFacts.{count_turned, one_there, removed_one}
-use Rattle.wait_room.proofs.RoomFacts.{all_removed, removed_bytes, taken_out, same_room}
+use Rattle.wait_room.proofs.public.RoomFacts.{all_removed, removed_bytes, taken_out, same_room}
 use Rattle.wait_room.proofs.ScanFacts.{slip_at_slices}
 use Rattle.wait_room.proofs.room.WaitRoom.take_at.Goals as goal
 

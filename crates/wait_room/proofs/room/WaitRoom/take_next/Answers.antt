@@ -2,7 +2,7 @@ use Rattle.std.proofs.Common.{not}
 use Rattle.std.specs.Arc.{arc_value}
 use Rattle.block_record.specs.declared.blocks.Slip.{Slip}
 use Rattle.block_record.specs.Ids.{same_id}
-use Rattle.wait_room.proofs.RoomFacts.{found_kept, where_kept}
+use Rattle.wait_room.proofs.public.RoomFacts.{found_kept, where_kept}
 use Rattle.wait_room.proofs.room.WaitRoom.take_next.Goals as goal
 
 pub returns-clause-kept : goal.returns-clause-kept

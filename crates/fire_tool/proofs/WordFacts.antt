@@ -1,0 +1,17 @@
+-- Runs of the command that the words name.
+use Rattle.std.proofs.Common.{◌≡◌, ℕ, Bool, true, false, List, Some, subst, sym}
+use Rattle.check_command.specs.Check.{CheckRun}
+use Rattle.cursor_command.specs.CursorCommand.{CursorRun}
+use Rattle.fire_tool.specs.Program.{RunsCommand, RunsNamed, RunsPlain}
+use Rattle.command_io.specs.Streams.{ShelfState, Streams}
+use Rattle.fire_tool.specs.Words.{cursor_value, names_check}
+
+-- a run of the command that the words name
+pub cursor_words : (words : List (List ℕ)) (text : List ℕ) (shelf shelf' : ShelfState) (before after : Streams) (status : ℕ) → names_check words ≡ false → Some text ≡ cursor_value words
+    → CursorRun text before after status → RunsPlain words shelf shelf' before after status
+cursor_words words text shelf shelf' before after status other named run =
+    subst (λ (check : Bool). RunsNamed check words shelf shelf' before after status) (sym other) (subst (λ value. RunsCommand value words before after status) named run)
+
+-- the same of `check`
+pub check_words : (words : List (List ℕ)) (shelf shelf' : ShelfState) (before after : Streams) (status : ℕ) → names_check words ≡ true → CheckRun shelf shelf' before after status → RunsPlain words shelf shelf' before after status
+check_words words shelf shelf' before after status named run = subst (λ (check : Bool). RunsNamed check words shelf shelf' before after status) (sym named) run

@@ -1,4 +1,0 @@
-use Rattle.link_rows.proofs.tests.a_chain_and_its_branch_take_their_room_once.Given as goal
-
-abbrev pub ghosts-run_deep : goal.ghosts-run_deep
-ghosts-run_deep g a = record { name = a.blank.name; parts = a.blank.parts }

@@ -1,0 +1,9 @@
+mod Transcripts
+mod Endings
+mod Received
+mod SmallSessions
+mod SmallLines
+mod Reading
+mod Runs
+mod Chains
+mod Taken

@@ -1,0 +1,3 @@
+mod Lengths
+mod Looks
+pub mod public

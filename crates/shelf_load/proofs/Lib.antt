@@ -1,0 +1,4 @@
+mod FilterFacts
+mod SweepFacts
+mod AnswerFacts
+mod KeptFacts

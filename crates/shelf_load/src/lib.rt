@@ -1,0 +1,7 @@
+//! The shelf of a relay, swept.
+#![tactic(auto)]
+
+mod owns;
+mod sweeps;
+
+pub use sweeps::{Sweeper, sweep_all};

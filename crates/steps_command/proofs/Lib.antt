@@ -1,0 +1,3 @@
+mod TellFacts
+mod ProgressFacts
+mod StepsFacts

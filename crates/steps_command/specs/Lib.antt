@@ -1,0 +1,5 @@
+pub mod Following
+pub mod ErrorLines
+pub mod Telling
+pub mod Runs
+pub mod Pieces

@@ -1,0 +1,9 @@
+pub mod Shown
+pub mod Kept
+pub mod Loads
+pub mod Clean
+pub mod Laws
+pub mod Steps
+pub mod StepLaws
+pub mod StoredLaws
+pub mod Tables
