@@ -1,12 +1,16 @@
 -- A relay's entries with another size of a bundle.
-use Rattle.std.proofs.Common.{◌≡◌, ◌∷◌, ◌++◌, ℕ, List, [], Option, Some, None, refl, sym, ◌∙◌, ap}
+use Rattle.std.proofs.Common.{◌≡◌, ◌∷◌, ◌++◌, ℕ, Bool, List, [], Option, Some, None, refl, sym, ◌∙◌, ap, subst}
 use Rattle.block_record.specs.declared.blocks.Kind.{Kind as NodeKind}
 use Rattle.block_record.specs.declared.blocks.Slip.{Slip}
 use Rattle.relay_model.specs.Chronicles.{Admitted, Closed, Entry, Kind, Opened, Stored, Waited, closed_of, first_of, history_of, kind_of, limits_of, run_of, size_of, stored_of, waited_of, world_of}
 use Rattle.relay_model.specs.Worlds.{Limits, World}
 use Rattle.block_relay.specs.declared.marks.Mark.{Mark}
 use Rattle.block_relay.specs.declared.marks.Mark.TheVariants as mark
-use Rattle.block_relay.specs.Chronicle.{entries_by, resized}
+use Rattle.relay_model.specs.declared.answers.Conflict.{Conflict as Clash}
+use Rattle.relay_model.proofs.public.Sound.{same_sound}
+use Rattle.block_intake.specs.Intakes.{TakenIn}
+use Rattle.block_relay.specs.Chronicle.{IsKept, entries_by, resized, world_told}
+use Rattle.block_relay.proofs.KeptFacts.{told}
 
 -- the entries of marks differ in the opening alone
 pub resized_by : (f r : ℕ) (l : Limits) (m n : ℕ) (k : Option NodeKind) (ms : List Mark) (h ws : List Slip) → resized n (entries_by (Opened f r l m) k ms h ws) ≡ entries_by (Opened f r l n) k ms h ws
@@ -106,3 +110,24 @@ closed_same n (Closed ∷ es) = refl
 -- and so do their worlds in the size alone
 pub resized_world : (n : ℕ) (es : List Entry) → world_of (resized n es) ≡ record (world_of es) { size = size_of (resized n es) }
 resized_world n es = rw (first_same n es, run_same n es, limits_same n es, kind_same n es, history_same n es, waited_same n es, stored_same n es, closed_same n es) refl
+
+-- what a relay tells with another size, in place of its own
+pub resized_told : (f r : ℕ) (l : Limits) (m n : ℕ) (k : Option NodeKind) (ms : List Mark) (h ws : List Slip) (cs : List Clash)
+    → world_told (told (entries_by (Opened f r l n) k ms h ws) cs) ≡ record (world_told (told (entries_by (Opened f r l m) k ms h ws) cs)) { size = n }
+resized_told f r l m n k ms h ws cs =
+    let es = entries_by (Opened f r l m) k ms h ws in
+    let is = resized_by f r l m n k ms h ws in
+    ap (λ (x : List Entry). world_told (told x cs)) (sym is)
+    ∙ ap (λ (w : World). record w { conflicts = cs }) (resized_world n es)
+    ∙ ap (λ s. record (world_told (told es cs)) { size = s }) (ap size_of is ∙ size_by f r l n k ms h ws)
+
+-- and it keeps all else
+pub resizes : (w v : World) (t : TakenIn) (kept : Option NodeKind) (shut : Bool) (run m n : ℕ) → v ≡ record w { size = n } → IsKept w t kept shut run m → IsKept v t kept shut run n
+resizes w v t kept shut run m n e k = subst (λ (x : World). IsKept x t kept shut run n) (sym e) (record {
+    alike = record { first = k.alike.first; limits = k.alike.limits; history = k.alike.history; waiting = k.alike.waiting };
+    kind = k.kind;
+    closed = k.closed;
+    run_is = k.run_is;
+    size_is = refl;
+    sound = same_sound w (record w { size = n }) refl refl (λ none. none) refl k.sound;
+})

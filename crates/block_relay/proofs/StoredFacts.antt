@@ -1,13 +1,14 @@
 -- What is stored in a relay's world, by the payloads that its history gave up.
 use Rattle.std.proofs.Common.{arith, ◌≡◌, ◌≤◌, ◌<◌, ◌+◌, ◌-◌, ℕ, zero, suc, Bool, true, false, not, cond, List, [], ◌∷◌, ◌++◌, length, map, reverse, set, take, Option, Some, None, refl, sym, ◌∙◌, ap, subst, ◌&&◌, ◌||◌, IsSome, is_some}
 use Rattle.std.specs.List.{AllByRecursion, filter, find, list_all, list_any, slice_get}
+use Rattle.std.specs.Option.{option_map}
 use Rattle.std.proofs.Math.Dec.{eqb}
 use Rattle.std.proofs.lemmas.Bool.{both_ways, false_from_ne_true}
 use Rattle.std.proofs.lemmas.List.{length-append}
 use Rattle.block_record.specs.declared.blocks.Block.{Block}
 use Rattle.block_record.specs.declared.blocks.Slip.{Slip}
 use Rattle.block_record.specs.Slips.{same_slip}
-use Rattle.block_record.specs.Ids.{same_id, same_id_refl}
+use Rattle.block_record.specs.Ids.{same_id, same_id-true, same_id_refl}
 use Rattle.block_tree.specs.Places.{place_of, slip_at}
 use Rattle.chain_model.specs.Ancestry.{has_id, IsHistory}
 use Rattle.chain_model.specs.Finality.{final_ancestry, final_tip}
@@ -26,11 +27,13 @@ use Rattle.bundle_model.proofs.public.PlanFacts.{at_places_among}
 use Rattle.bundle_model.proofs.public.RetainedFacts.{id_there}
 use Rattle.bundle_model.specs.Retained.{retained, stored_finals}
 use Rattle.block_record.proofs.public.SlipFacts.{same_slip_is, same_slip_refl}
-use Rattle.block_tree.proofs.public.PlaceFacts.{is_held, place_none, place_slip}
+use Rattle.block_tree.proofs.public.PlaceFacts.{is_held, place_none, place_range, place_slip, slip_at_past, slip_at_top}
+use Rattle.chain_laws.proofs.public.Lines.{IsHistory-rest, is_fresh}
+use Rattle.std.proofs.lemmas.Option.{same_Some}
 use Rattle.block_intake.specs.Intakes.{world_taken}
 use Rattle.relay_model.specs.declared.answers.Conflict.{Conflict as Clash}
 use Rattle.stored_blocks.proofs.public.PathFacts.{filter_same}
-use Rattle.block_relay.specs.Chronicle.{IsKept, world_told}
+use Rattle.block_relay.specs.Chronicle.{IsKept, Told, world_told}
 use Rattle.block_relay.proofs.KeptFacts.{told}
 use Rattle.fork_db.specs.Forks.{Forks}
 use Rattle.block_intake.specs.Intakes.{TakenIn}
@@ -140,10 +143,6 @@ entries_twice newest es (x ∷ xs) ys = entries_twice newest (entry_at es (place
 
 pub entries_history : (newest : List Slip) (es : List Entry) (ss : List Slip) → history_of (stored_entries newest es ss) ≡ history_of es
 entries_history newest es ss = ap (λ (w : World). w.history) (entries_world newest es ss)
-
--- the place of a block that is found by its id
-pub place_found : (newest : List Slip) (s t : Slip) (at : ℕ) → place_of newest s.id ≡ Some at → slip_at newest at ≡ Some t → place_in newest s ≡ cond (same_slip t s) (Some at) None
-place_found newest s t at e here = grind (arith, e, here)
 
 -- how many are stored, and how many are not
 pub both_counts : (q : Slip → Bool) (xs : List Slip) → length (filter q xs) + length (filter (λ s. not (q s)) xs) ≡ length xs
@@ -264,6 +263,30 @@ place_missing (t ∷ older) s e = go (same_id t.id s.id) (same_slip t s) refl re
     go false true ea eb k ih = absurd (both_ways _ ea (subst (λ (x : Slip). same_id t.id x.id ≡ true) (same_slip_is t s eb) (same_id_refl t.id)))
     go false false ea eb k ih = ih k
 
+-- the place of a block that is found by its id
+pub place_found : (newest : List Slip) (s t : Slip) (at : ℕ) → IsHistory newest → place_of newest s.id ≡ Some at → slip_at newest at ≡ Some t → place_in newest s ≡ cond (same_slip t s) (Some at) None
+place_found [] s t at history e here = absurd (grind (arith, e))
+place_found (x ∷ older) s t at history e here = go (same_id x.id s.id) refl e (λ k h. place_found older s t at (IsHistory-rest x older history) k h)
+  where
+    go : (a : Bool) → same_id x.id s.id ≡ a → cond a (Some (length older)) (place_of older s.id) ≡ Some at → (place_of older s.id ≡ Some at → slip_at older at ≡ Some t → place_in older s ≡ cond (same_slip t s) (Some at) None) → place_in (x ∷ older) s ≡ cond (same_slip t s) (Some at) None
+    go true ea k ih =
+        let place : length older ≡ at = same_Some (length older) at k in
+        let one : x ≡ t = same_Some x t (sym (slip_at_top x older) ∙ ap (slip_at (x ∷ older)) place ∙ here) in
+        let lacks : has_id older s.id ≡ false = ap (has_id older) (sym (same_id-true x.id s.id ea)) ∙ is_fresh x older history in
+        let none : place_in older s ≡ None = place_missing older s (missing (place_of older s.id) (is_held older s.id ∙ lacks)) in
+        ap (λ o. cond (same_slip x s) (Some (length older)) o) none
+        ∙ ap (λ n. cond (same_slip x s) (Some n) None) place
+        ∙ ap (λ (y : Slip). cond (same_slip y s) (Some at) None) one
+      where
+        missing : (o : Option ℕ) → is_some o ≡ false → o ≡ None
+        missing None f = refl
+        missing (Some n) f = absurd (both_ways _ f refl)
+    go false ea k ih =
+        let low = place_range older s.id at k in
+        let rest = ih k (sym (slip_at_past x older at low) ∙ here) in
+        let miss : same_slip x s ≡ false = false_from_ne_true _ (λ b. both_ways _ ea (subst (λ (y : Slip). same_id x.id y.id ≡ true) (same_slip_is x s b) (same_id_refl x.id))) in
+        ap (λ b. cond b (Some (length older)) (place_in older s)) miss ∙ rest
+
 -- the entries after a block
 pub entry_none : (es : List Entry) (newest : List Slip) (s : Slip) (held : List (Option Block)) → AreGone (stored_of es) held → ((at : ℕ) → place_in newest s ≡ Some at → is_gone (slice_get held at) ≡ true) → entry_at es (place_in newest s) ≡ es
 entry_none es newest s held gone f = go (place_in newest s) refl
@@ -355,3 +378,44 @@ sweep_lost w f num id waits same held gone e =
     in_first : (xs ys : List Slip) (i : List ℕ) → has_id ys i ≡ false → has_id (xs ++ ys) i ≡ has_id xs i
     in_first [] ys i h = h
     in_first (x ∷ xs) ys i h = let ih = in_first xs ys i h in rw ih refl
+
+-- the place of a block whose id is known, by whether the slips are the same
+pub place_same : (newest : List Slip) (s t : Slip) (at : ℕ) (same : Bool) → IsHistory newest → place_of newest s.id ≡ Some at → slip_at newest at ≡ Some t → same ≡ same_slip s t → place_in newest s ≡ cond same (Some at) None
+place_same newest s t at same history e here test = place_found newest s t at history e here ∙ ap (λ b. cond b (Some at) None) (slip_turn t s ∙ sym test)
+
+-- no place is none
+pub none_some : (at : ℕ) → None ≡ Some at → ⊥
+none_some at e = grind (arith, e)
+
+-- room for marks stays where as much is left
+pub marks_on : (shut : Bool) (t u : TakenIn) (i j : Index) (len capacity len' capacity' : ℕ) → HasMarksLeft shut t i len capacity → len' + length u.forks.history + (capacity + i.stored) ≤ len + length t.forks.history + (capacity' + j.stored) → HasMarksLeft shut u j len' capacity'
+marks_on true t u i j len capacity len' capacity' h le = omega (arith, h, le)
+marks_on false t u i j len capacity len' capacity' h le = omega (arith, h, le)
+
+-- the entries of one history
+pub entry_history : (es : List Entry) (o : Option ℕ) → history_of (entry_at es o) ≡ history_of es
+entry_history es o = ap (λ (w : World). w.history) (entry_world es o)
+
+-- one more block after those that came to be stored
+pub entries_push : (newest : List Slip) (es : List Entry) (xs : List Slip) (s : Slip) → stored_entries newest es (xs ++ s ∷ []) ≡ entry_at (stored_entries newest es xs) (place_in newest s)
+entries_push newest es xs s = entries_twice newest es xs (s ∷ [])
+
+-- two lists of blocks, each by the history of the entries before it
+pub entries_both : (es mid new : List Entry) (xs ys : List Slip) → mid ≡ stored_entries (history_of es) es xs → new ≡ stored_entries (history_of mid) mid ys → new ≡ stored_entries (history_of es) es (xs ++ ys)
+entries_both es mid new xs ys first second =
+    second
+    ∙ ap (λ l. stored_entries l mid ys) (ap history_of first ∙ entries_history (history_of es) es xs)
+    ∙ ap (λ l. stored_entries (history_of es) l ys) first
+    ∙ sym (entries_twice (history_of es) es xs ys)
+
+-- what is told after a plan was shed
+pub shed_told : (old new : Told) (plan : Plan) → new.entries ≡ shed_entries old.entries plan → new.conflicts ≡ old.conflicts → world_told new ≡ shed (world_told old) plan
+shed_told old new plan entries conflicts =
+    ap (λ (es : List Entry). world_told (told es new.conflicts)) entries
+    ∙ ap (λ (w : World). record w { conflicts = new.conflicts }) (shed_world old.entries plan)
+    ∙ ap (λ (cs : List Clash). record (shed (world_of old.entries) plan) { conflicts = cs }) conflicts
+
+-- whether a payload is not held
+pub gone_none : {X : Type 0} (f : X → Block) (o : Option X) → not (is_some o) ≡ is_gone (Some (option_map f o))
+gone_none {X} f None = refl
+gone_none {X} f (Some x) = refl

@@ -78,6 +78,7 @@ impl Relay {
         ensures { result ≡ may_sweep_in (world_told self.now) num id.now }
     {
         let db = self.intake.history();
+        let _ = db.len();
         match db.find(id) {
             Some(at) => db.held(at).is_none(),
             None => !self.intake.waits(id) && is_reached(db, num),
@@ -119,6 +120,8 @@ fn place_held(db: &ForkDb, block: &Block) -> Option<usize>
         → place_in db.now.history (slip_of_block block.now) ≡ Some at
         → is_gone (slice_get db.now.held at) ≡ true }
 {
+    // The history is one.
+    let _ = db.len();
     let Some(at) = db.find(&block.id) else {
         return None;
     };

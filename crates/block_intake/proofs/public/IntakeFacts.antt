@@ -26,6 +26,7 @@ use Rattle.block_intake.specs.declared.answers.OfferFault.TheVariants as fault
 use Rattle.block_intake.specs.Answers.{IsAnswer, TakesMemory, is_mem}
 use Rattle.wait_room.specs.Rooms.{AreKept}
 use Rattle.block_intake.specs.Taking.{HoldsMore, StaysHeld}
+use Rattle.fork_db.specs.Forks.{Forks}
 use Rattle.block_intake.proofs.TakingFacts.{holds_same, holds_twice}
 use Rattle.block_intake.specs.Intakes.{IsOffered, IsUnchanged, TakenIn, limits_in, unnoted, untold_kind, world_taken}
 use Rattle.block_intake.specs.Judged.{HasParts}
@@ -86,6 +87,10 @@ unchanged_world old new u = rw (u.first, u.history, u.limit, u.room) refl
 
 pub unchanged_holds : (old new : TakenIn) → IsUnchanged old new → HoldsMore old.forks new.forks
 unchanged_holds old new u = holds_same old.forks new.forks u.history u.held
+
+-- and then blocks came
+pub unchanged_more : (old mid : TakenIn) (new : Forks) → IsUnchanged old mid → HoldsMore mid.forks new → HoldsMore old.forks new
+unchanged_more old mid new u h = holds_twice old.forks mid.forks new (unchanged_holds old mid u) h
 
 pub unchanged_same : (t : TakenIn) → IsUnchanged t t
 unchanged_same t = record { first = refl; history = refl; held = refl; limit = refl; room = refl }
@@ -242,7 +247,7 @@ admitted_offer old mid new s given result u rule said ok world held =
       said = subst (λ (w : World). IsAnswer (answer_by w s verdict.Admitted) result) same said;
       world = λ _. world ∙ ap (λ (w : World). unnoted (world_by w s verdict.Admitted)) same;
       mem = λ m. absurd (grind (arith, m, ok));
-      held = λ g h. let k = held g (rw u.room h) in record { more = holds_twice old.forks mid.forks new.forks (unchanged_holds old mid u) k.more; waiting = k.waiting };
+      held = λ g h. let k = held g (rw u.room h) in record { more = unchanged_more old mid new.forks u k.more; waiting = k.waiting };
     })
 
 -- an answer for want of memory that leaves the intake as it is
