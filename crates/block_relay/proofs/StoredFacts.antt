@@ -137,11 +137,11 @@ pub shed_world : (es : List Entry) (plan : Plan) → world_of (shed_entries es p
 shed_world es plan = entries_world (history_of es) es (plan.finals ++ plan.dead)
 
 -- one after another
-pub entries_twice : (newest : List Slip) (es : List Entry) (xs ys : List Slip) → stored_entries newest es (xs ++ ys) ≡ stored_entries newest (stored_entries newest es xs) ys
+entries_twice : (newest : List Slip) (es : List Entry) (xs ys : List Slip) → stored_entries newest es (xs ++ ys) ≡ stored_entries newest (stored_entries newest es xs) ys
 entries_twice newest es [] ys = refl
 entries_twice newest es (x ∷ xs) ys = entries_twice newest (entry_at es (place_in newest x)) xs ys
 
-pub entries_history : (newest : List Slip) (es : List Entry) (ss : List Slip) → history_of (stored_entries newest es ss) ≡ history_of es
+entries_history : (newest : List Slip) (es : List Entry) (ss : List Slip) → history_of (stored_entries newest es ss) ≡ history_of es
 entries_history newest es ss = ap (λ (w : World). w.history) (entries_world newest es ss)
 
 -- how many are stored, and how many are not
@@ -392,13 +392,16 @@ pub marks_on : (shut : Bool) (t u : TakenIn) (i j : Index) (len capacity len' ca
 marks_on true t u i j len capacity len' capacity' h le = omega (arith, h, le)
 marks_on false t u i j len capacity len' capacity' h le = omega (arith, h, le)
 
--- the entries of one history
-pub entry_history : (es : List Entry) (o : Option ℕ) → history_of (entry_at es o) ≡ history_of es
-entry_history es o = ap (λ (w : World). w.history) (entry_world es o)
-
 -- one more block after those that came to be stored
-pub entries_push : (newest : List Slip) (es : List Entry) (xs : List Slip) (s : Slip) → stored_entries newest es (xs ++ s ∷ []) ≡ entry_at (stored_entries newest es xs) (place_in newest s)
+entries_push : (newest : List Slip) (es : List Entry) (xs : List Slip) (s : Slip) → stored_entries newest es (xs ++ s ∷ []) ≡ entry_at (stored_entries newest es xs) (place_in newest s)
 entries_push newest es xs s = entries_twice newest es xs (s ∷ [])
+
+pub entries_next : (es now new : List Entry) (xs : List Slip) (s : Slip) → now ≡ stored_entries (history_of es) es xs → new ≡ entry_at now (place_in (history_of now) s) → new ≡ stored_entries (history_of es) es (xs ++ s ∷ [])
+entries_next es now new xs s before one =
+    one
+    ∙ ap (λ l. entry_at now (place_in l s)) (ap history_of before ∙ entries_history (history_of es) es xs)
+    ∙ ap (λ l. entry_at l (place_in (history_of es) s)) before
+    ∙ sym (entries_push (history_of es) es xs s)
 
 -- two lists of blocks, each by the history of the entries before it
 pub entries_both : (es mid new : List Entry) (xs ys : List Slip) → mid ≡ stored_entries (history_of es) es xs → new ≡ stored_entries (history_of mid) mid ys → new ≡ stored_entries (history_of es) es (xs ++ ys)
@@ -419,3 +422,7 @@ shed_told old new plan entries conflicts =
 pub gone_none : {X : Type 0} (f : X → Block) (o : Option X) → not (is_some o) ≡ is_gone (Some (option_map f o))
 gone_none {X} f None = refl
 gone_none {X} f (Some x) = refl
+
+pub other_way : (a b : Bool) → a ≡ not b → b ≡ not a
+other_way a true e = ap not (sym e)
+other_way a false e = ap not (sym e)

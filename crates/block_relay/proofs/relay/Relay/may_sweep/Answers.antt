@@ -9,7 +9,7 @@ use Rattle.fork_db.specs.Forks.{Forks}
 use Rattle.stored_blocks.specs.Stored.{is_gone}
 use Rattle.block_relay.specs.Chronicle.{IsKept, Told, world_told}
 use Rattle.block_relay.specs.Held.{AreGone}
-use Rattle.block_relay.proofs.StoredFacts.{gone_none, sweep_found, sweep_lost}
+use Rattle.block_relay.proofs.StoredFacts.{gone_none, other_way, sweep_found, sweep_lost}
 use Rattle.block_relay.proofs.relay.Relay.may_sweep.Goals as goal
 
 pub held-requires : goal.held-requires
@@ -22,7 +22,7 @@ returns-in-Some c =
     let f = c.history-db.result.now in
     let k : IsKept w t.intake t.kind t.closed t.run t.size = subst (λ (x : Told). IsKept (world_told x) t.intake t.kind t.closed t.run t.size) c.self.view_is c.self.invariant.0 in
     let gone : AreGone w.stored f.held = subst (λ (g : Forks). AreGone w.stored g.held) (sym c.history-db.ensures) (subst (λ (x : Told). AreGone (world_told x).stored t.intake.forks.held) c.self.view_is c.self.invariant.5) in
-    c.is_none.ensures ∙ gone_none _ c.held.result ∙ ap is_gone (sym c.held.ensures.value)
+    other_way _ c.is_none.result c.is_none.ensures ∙ gone_none _ c.held.result ∙ ap is_gone (sym c.held.ensures.value)
     ∙ sweep_found w f c.args.num c.in-Some.at c.args.id.now c.len.ensures.sound (k.alike.history ∙ ap (λ (g : Forks). g.history) (sym c.history-db.ensures)) gone (sym c.find.ensures ∙ c.in-Some.is)
 
 pub returns-then-not-waits : goal.returns-then-not-waits

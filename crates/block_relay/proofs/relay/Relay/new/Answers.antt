@@ -32,5 +32,5 @@ invariant_of-result c =
       index_on no_forks t.forks c.new-2.result c.new-2.result.room history c.in_ok-intake.ensures.held c.new-2.ensures.index,
       subst (λ (es : List Entry). AreGone (stored_of es) t.forks.held) (sym entries)
       (λ at. ap (λ l. is_gone (slice_get l at)) (sym c.in_ok-intake.ensures.held)),
-      tt,
+      refl,
     )
