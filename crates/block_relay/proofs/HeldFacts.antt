@@ -1,10 +1,9 @@
 -- That a chunk has the blocks that are held.
-use Rattle.std.proofs.Common.{arith, ◌≡◌, ◌∙◌, ap, sym, subst, ℕ, true, false, List, [], ◌∷◌, Option, Some, None, IsSome, refl}
-use Rattle.std.specs.List.{AllByRecursion, slice_get}
+use Rattle.std.proofs.Common.{arith, ◌≡◌, ◌∙◌, ap, sym, ℕ, true, List, [], ◌∷◌, Option, Some, None, IsSome, refl}
+use Rattle.std.specs.List.{AllByRecursion}
 use Rattle.std.specs.Option.{option_map}
 use Rattle.std.proofs.lemmas.Bool.{both_ways}
 use Rattle.block_record.specs.declared.blocks.Block.{Block}
-use Rattle.block_record.specs.declared.blocks.Slip.{Slip}
 use Rattle.block_tree.specs.Places.{place_of}
 use Rattle.block_tree.proofs.public.PlaceFacts.{is_held, place_slip}
 use Rattle.chain_model.specs.Ancestry.{has_id, IsHistory}
@@ -32,9 +31,9 @@ has_block w f x history same gone h = λ has open'.
     let p = some_place (place_of f.history x.slip.id) (is_held f.history x.slip.id ∙ ap (λ l. has_id l x.slip.id) (sym same) ∙ has) in
     let q = place_slip f.history x.slip.id p.0 p.1 in
     some_held _ x.held (λ given.
-        let e : is_stored w x.slip ≡ true =
-        stored_alike w f same gone x.slip ∙ ap (has_id (at_places (gone_places 0 f.held) f.history)) (sym q.2) ∙ given_up_at f p.0 q.0 history q.1 ∙ ap is_gone (h p.0 p.1) ∙ given in
-        both_ways _ open' e)
+    let e : is_stored w x.slip ≡ true =
+    stored_alike w f same gone x.slip ∙ ap (has_id (at_places (gone_places 0 f.held) f.history)) (sym q.2) ∙ given_up_at f p.0 q.0 history q.1 ∙ ap is_gone (h p.0 p.1) ∙ given in
+    both_ways _ open' e)
 
 pub have_blocks : (w : World) (f : Forks) (xs : List StepItem) → IsHistory f.history → w.history ≡ f.history → AreGone w.stored f.held → AllByRecursion (HoldsWhatIs f.history f.held) xs → AllByRecursion (HasBlock w) xs
 have_blocks w f [] history same gone h = tt

@@ -1,5 +1,5 @@
 -- A relay's entries with another size of a bundle.
-use Rattle.std.proofs.Common.{◌≡◌, ◌∷◌, ◌++◌, ℕ, Bool, List, [], Option, Some, None, refl, sym, ◌∙◌, ap, subst}
+use Rattle.std.proofs.Common.{◌≡◌, ◌∷◌, ℕ, Bool, List, [], Option, Some, None, refl, sym, ◌∙◌, ap, subst}
 use Rattle.block_record.specs.declared.blocks.Kind.{Kind as NodeKind}
 use Rattle.block_record.specs.declared.blocks.Slip.{Slip}
 use Rattle.relay_model.specs.Chronicles.{Admitted, Closed, Entry, Kind, Opened, Stored, Waited, closed_of, first_of, history_of, kind_of, limits_of, run_of, size_of, stored_of, waited_of, world_of}
@@ -124,10 +124,10 @@ resized_told f r l m n k ms h ws cs =
 -- and it keeps all else
 pub resizes : (w v : World) (t : TakenIn) (kept : Option NodeKind) (shut : Bool) (run m n : ℕ) → v ≡ record w { size = n } → IsKept w t kept shut run m → IsKept v t kept shut run n
 resizes w v t kept shut run m n e k = subst (λ (x : World). IsKept x t kept shut run n) (sym e) (record {
-    alike = record { first = k.alike.first; limits = k.alike.limits; history = k.alike.history; waiting = k.alike.waiting };
-    kind = k.kind;
-    closed = k.closed;
-    run_is = k.run_is;
-    size_is = refl;
-    sound = same_sound w (record w { size = n }) refl refl (λ none. none) refl k.sound;
+  alike = record { first = k.alike.first; limits = k.alike.limits; history = k.alike.history; waiting = k.alike.waiting };
+  kind = k.kind;
+  closed = k.closed;
+  run_is = k.run_is;
+  size_is = refl;
+  sound = same_sound w (record w { size = n }) refl refl (λ none. none) refl k.sound;
 })

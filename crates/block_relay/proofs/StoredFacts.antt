@@ -19,7 +19,7 @@ use Rattle.relay_model.specs.Chronicles.{Admitted, Entry, Stored, added_by, hist
 use Rattle.relay_model.specs.Worlds.{World}
 use Rattle.bundle_model.specs.Bundles.{base_of, finals_up, is_within}
 use Rattle.std.specs.Prelude.{nat_le, nat_lt, if◌then◌else◌}
-use Rattle.bundle_model.specs.Plans.{Plan, at_places, dead_below, first_unstored, is_dead, is_stored, last_stored, next_plan, plan_at, plan_dead, plan_first, plan_with, stored_slips}
+use Rattle.bundle_model.specs.Plans.{Plan, at_places, first_unstored, is_stored, last_stored, next_plan, plan_dead, plan_first, plan_with, stored_slips}
 use Rattle.bundle_model.specs.Shedding.{is_reached, may_sweep, place_in, shed, stored_after, stored_at}
 use Rattle.bundle_model.proofs.public.MemberFacts.{reverse-push}
 use Rattle.bundle_model.proofs.public.StoredFacts.{is_one}
@@ -40,7 +40,7 @@ use Rattle.block_intake.specs.Intakes.{TakenIn}
 use Rattle.block_intake.specs.Taking.{HoldsMore}
 use Rattle.stored_blocks.specs.Stored.{HasGrown, HasTaken, Index, IsIndex, gone_places, is_given_up, is_gone, world_in}
 use Rattle.stored_blocks.proofs.public.HeldFacts.{given_up_at, gone_append, gone_is, has_among, set_gone}
-use Rattle.block_relay.specs.Chronicle.{entry_at, resized, shed_entries, stored_entries}
+use Rattle.block_relay.specs.Chronicle.{entry_at, shed_entries, stored_entries}
 use Rattle.block_relay.specs.Held.{AreGone, HasMarksLeft}
 
 -- the same places have the same blocks
@@ -107,7 +107,7 @@ unstored_same : (w v : World) → stored_slips w ≡ stored_slips v → w.histor
 unstored_same w v slips history = ap (λ l. find (λ x. not (has_id l x.id)) (finals_up w.history)) slips ∙ ap (λ h. find (λ x. not (is_stored v x)) (finals_up h)) history
 
 pub plan_alike : (w : World) (f : Forks) → w.history ≡ f.history → AreGone w.stored f.held → next_plan w ≡ next_plan (world_in w.size f)
-plan_alike w f history gone = 
+plan_alike w f history gone =
     let v = world_in w.size f in
     let slips = slips_alike w f history gone in
     plan_first_same w v refl slips history (first_unstored w)
@@ -370,8 +370,8 @@ pub sweep_lost : (w : World) (f : Forks) (num : ℕ) (id : List ℕ) (waits : Bo
 sweep_lost w f num id waits same held gone e =
     let lacks : has_id w.history id ≡ false = ap (λ l. has_id l id) same ∙ place_none f.history id e in
     let none : has_id (stored_slips w) id ≡ false = false_from_ne_true _ (λ t.
-        let p = has_among (stored_slips w) id t in
-        both_ways _ lacks (subst (λ (i : List ℕ). has_id w.history i ≡ true) p.2 (id_there w.history p.0 (at_places_among w.stored w.history p.0 p.1)))) in
+    let p = has_among (stored_slips w) id t in
+    both_ways _ lacks (subst (λ (i : List ℕ). has_id w.history i ≡ true) p.2 (id_there w.history p.0 (at_places_among w.stored w.history p.0 p.1)))) in
     let both : has_id (w.waiting ++ w.history) id ≡ waits = in_first w.waiting w.history id lacks ∙ sym held in
     rw (none, both, same) refl
   where

@@ -1,4 +1,4 @@
-use Rattle.std.proofs.Common.{arith, ◌≡◌, ◌≤◌, ◌+◌, ◌++◌, List, length, Option, Ok, Result, false, reverse, replicate, refl, ap, sym, ◌∙◌, subst}
+use Rattle.std.proofs.Common.{arith, ◌≡◌, ◌≤◌, ◌+◌, ◌++◌, List, length, Ok, Result, false, reverse, replicate, refl, ap, sym, ◌∙◌, subst}
 use Rattle.block_record.specs.declared.blocks.Slip.{Slip}
 use Rattle.block_record.specs.Slips.{slip}
 use Rattle.fork_db.specs.Claims.{IsLinkOf}
@@ -117,7 +117,7 @@ invariant_of-self c =
     let entries = entries_on new t.intake t.run (limits_told t.limits) t.size t.kind _ _ (reverse t.waited.items) (reverse t.waited.items) u.first u.history (ap reverse marks) refl in (
       kept_as _ old.entries _ old.conflicts new t.kind t.kind t.closed t.run t.size entries (ap reverse c.reserve_admission.ensures.conflicts) refl (kept_on (world_told old) t.intake new t.kind t.closed t.run t.size c.self.invariant.0 u),
       marks_on t.closed t.intake new t.stored c.reserve_admission.new.stored _ _ _ _ c.self.invariant.1
-      (omega (arith, ap length u.history, ap (λ (i : Index). i.stored) c.reserve_admission.ensures.stored, c.reserve_admission.ensures.len, c.reserve_admission.ensures.capacity)),
+          (omega (arith, ap length u.history, ap (λ (i : Index). i.stored) c.reserve_admission.ensures.stored, c.reserve_admission.ensures.len, c.reserve_admission.ensures.capacity)),
       λ e. ap (λ l. has_kind_mark (reverse l)) marks ∙ c.self.invariant.2 e,
       subst AreKept (sym u.room) c.self.invariant.3,
       subst (IsIndex new.forks) (sym c.reserve_admission.ensures.stored) (index_on t.intake.forks new.forks t.stored c.reserve_admission.new.stored.room u.history u.held c.self.invariant.4),
@@ -155,12 +155,12 @@ invariant_of-self-2 c =
     let done = admits old.entries old.conflicts t.intake new t.kind t.closed t.run t.size x k takes block left in (
       kept_as _ _ _ _ new _ _ t.closed t.run t.size now.entries now.conflicts kind done,
       marks_left t.closed new c.grow.new.self _ _
-      (omega (arith, rest, index_low t.intake.forks t.stored c.self.invariant.4, ap (λ (i : Index). i.stored) c.reserve_admission.ensures.stored, told.len, ap length u.history, counted, c.admit-from.ensures.most, c.in_ok-reserve_admission.ensures.ok.marks, c.mark_admitted.ensures.len, c.mark_admitted.ensures.capacity, c.keep_root_kind.ensures.len, c.keep_root_kind.ensures.capacity)),
+          (omega (arith, rest, index_low t.intake.forks t.stored c.self.invariant.4, ap (λ (i : Index). i.stored) c.reserve_admission.ensures.stored, told.len, ap length u.history, counted, c.admit-from.ensures.most, c.in_ok-reserve_admission.ensures.ok.marks, c.mark_admitted.ensures.len, c.mark_admitted.ensures.capacity, c.keep_root_kind.ensures.len, c.keep_root_kind.ensures.capacity)),
       λ e. ap (λ l. has_kind_mark (reverse l)) marks ∙ ap has_kind_mark (marks_reverse t.marks.items root a.count) ∙ admission_kind t.kind root (reverse t.marks.items) a.count c.self.invariant.2 (sym c.keep_root_kind.ensures.kept ∙ e),
       stays.waiting,
       subst (λ (f : Forks). IsIndex f c.grow.new.self) c.history.ensures c.grow.ensures.index,
       subst (λ (es : List Entry). AreGone (stored_of es) new.forks.held) (sym now.entries)
-      (subst (λ l. AreGone l new.forks.held) (sym (added_stored w x old.entries)) (gone_grown _ _ _ more c.self.invariant.5)),
+          (subst (λ l. AreGone l new.forks.held) (sym (added_stored w x old.entries)) (gone_grown _ _ _ more c.self.invariant.5)),
       c.self.invariant.6,
     )
 

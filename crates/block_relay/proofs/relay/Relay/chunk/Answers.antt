@@ -1,4 +1,4 @@
-use Rattle.std.proofs.Common.{◌≡◌, ap, sym, ◌∙◌, subst, List, drop, length}
+use Rattle.std.proofs.Common.{ap, sym, ◌∙◌, subst, List, drop, length}
 use Rattle.std.specs.List.{AllByRecursion}
 use Rattle.std.proofs.lemmas.Result.{on_ok_weaker}
 use Rattle.block_record.specs.declared.blocks.Slip.{Slip}

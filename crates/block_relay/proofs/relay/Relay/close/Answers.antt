@@ -1,4 +1,4 @@
-use Rattle.std.proofs.Common.{arith, ◌≡◌, ◌∷◌, false, true, List, reverse, ap, sym, ◌∙◌, refl, subst}
+use Rattle.std.proofs.Common.{arith, ◌≡◌, ◌∷◌, true, List, reverse, ap, sym, ◌∙◌, refl, subst}
 use Rattle.relay_model.specs.Chronicles.{Closed, Entry, stored_of}
 use Rattle.block_relay.specs.Held.{AreGone}
 use Rattle.block_relay.proofs.StoredFacts.{index_low, marks_open}

@@ -18,7 +18,7 @@ invariant_of-self-2 c =
     let kept = keeps_kind es (reverse t.conflicts.items) t.intake t.kind t.closed t.run t.size k c.self.invariant.0 in (
       rw (c.in_ok-kept.ensures, ms, ← before) kept,
       (let low = index_low t.intake.forks t.stored c.self.invariant.4 in
-      marks_left t.closed t.intake t.stored _ _ (omega (arith, low, c.len.ensures.len, c.stored.ensures, c.in_ok-reserve_marks.ensures.ok, c.push_reserved.ensures.len, c.push_reserved.ensures.capacity))),
+          marks_left t.closed t.intake t.stored _ _ (omega (arith, low, c.len.ensures.len, c.stored.ensures, c.in_ok-reserve_marks.ensures.ok, c.push_reserved.ensures.len, c.push_reserved.ensures.capacity))),
       λ e. absurd (grind (arith, e)),
       c.self.invariant.3,
       c.self.invariant.4,

@@ -54,8 +54,8 @@ invariant_of-self-2 c =
     let entries = entries_on new t.intake t.run (limits_told t.limits) t.size t.kind _ _ _ _ (ap (λ (w : World). w.first) left) (ap (λ (w : World). w.history) left) ms ws in (
       kept_as _ (Waited s ∷ es) _ _ new t.kind t.kind t.closed t.run t.size entries refl refl kept,
       (let low = index_low t.intake.forks t.stored c.self.invariant.4 in
-      marks_left t.closed new t.stored _ _
-      (omega (arith, low, ap (λ (f : Forks). length f.history) c.let_wait.ensures.forks, c.len.ensures.len, c.stored.ensures, c.in_ok-reserve_marks.ensures.ok, c.push_reserved-2.ensures.len, c.push_reserved-2.ensures.capacity))),
+          marks_left t.closed new t.stored _ _
+          (omega (arith, low, ap (λ (f : Forks). length f.history) c.let_wait.ensures.forks, c.len.ensures.len, c.stored.ensures, c.in_ok-reserve_marks.ensures.ok, c.push_reserved-2.ensures.len, c.push_reserved-2.ensures.capacity))),
       λ e. ap has_kind_mark ms ∙ c.self.invariant.2 e,
       c.in_ok-let_wait.ensures.held refl c.self.invariant.3,
       subst (λ (f : Forks). IsIndex f t.stored) (sym c.let_wait.ensures.forks) c.self.invariant.4,

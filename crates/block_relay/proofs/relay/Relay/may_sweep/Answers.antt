@@ -1,9 +1,8 @@
-use Rattle.std.proofs.Common.{◌≡◌, ◌&&◌, List, Bool, Some, false, true, not, ap, subst, sym, ◌∙◌}
+use Rattle.std.proofs.Common.{◌&&◌, List, not, ap, subst, sym, ◌∙◌}
 use Rattle.block_record.specs.declared.blocks.Slip.{Slip}
 use Rattle.bundle_model.specs.Shedding.{is_reached}
-use Rattle.block_tree.specs.Places.{place_of}
 use Rattle.block_tree.proofs.public.PlaceFacts.{place_range}
-use Rattle.chain_model.specs.Ancestry.{IsHistory, has_id}
+use Rattle.chain_model.specs.Ancestry.{has_id}
 use Rattle.chain_model.specs.Finality.{final_tip}
 use Rattle.fork_db.specs.Forks.{Forks}
 use Rattle.stored_blocks.specs.Stored.{is_gone}

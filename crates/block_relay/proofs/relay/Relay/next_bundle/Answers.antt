@@ -1,4 +1,4 @@
-use Rattle.std.proofs.Common.{◌≡◌, ◌-◌, length, ap, sym, ◌∙◌, subst}
+use Rattle.std.proofs.Common.{ap, sym, ◌∙◌, subst}
 use Rattle.bundle_model.specs.Plans.{next_plan}
 use Rattle.fork_db.specs.Forks.{Forks}
 use Rattle.stored_blocks.specs.Stored.{world_in}

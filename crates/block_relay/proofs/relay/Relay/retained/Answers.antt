@@ -1,5 +1,4 @@
-use Rattle.std.proofs.Common.{arith, ◌≡◌, ◌-◌, length, ap, sym, ◌∙◌, subst}
-use Rattle.bundle_model.specs.Retained.{retained}
+use Rattle.std.proofs.Common.{arith, subst}
 use Rattle.block_relay.specs.Chronicle.{IsKept, Told, world_told}
 use Rattle.block_relay.specs.Held.{AreGone}
 use Rattle.block_relay.proofs.StoredFacts.{index_low, retained_is}

@@ -1,4 +1,4 @@
-use Rattle.std.proofs.Common.{◌≡◌, reverse, refl, ap, subst, sym, ◌∙◌}
+use Rattle.std.proofs.Common.{reverse, ap, subst, sym, ◌∙◌}
 use Rattle.relay_model.specs.Worlds.{World}
 use Rattle.block_relay.specs.Chronicle.{Told, limits_told, resized, told_with, world_told}
 use Rattle.block_relay.specs.Held.{AreGone}

@@ -1,4 +1,4 @@
-use Rattle.std.proofs.Common.{◌≡◌, ◌++◌, List, map, ap, sym, ◌∙◌}
+use Rattle.std.proofs.Common.{map, ap, ◌∙◌}
 use Rattle.std.specs.Arc.{arc_value}
 use Rattle.block_record.specs.Slips.{slip}
 use Rattle.relay_model.specs.Chronicles.{history_of}

@@ -1,20 +1,18 @@
-use Rattle.std.proofs.Common.{arith, ◌≡◌, ◌∷◌, ◌<◌, List, length, reverse, set, Some, None, refl, ap, subst, sym, ◌∙◌}
-use Rattle.std.specs.List.{slice_get}
-use Rattle.block_record.specs.declared.blocks.Slip.{Slip}
+use Rattle.std.proofs.Common.{arith, ◌≡◌, ◌∷◌, List, length, reverse, Some, refl, ap, subst, sym, ◌∙◌}
 use Rattle.block_record.specs.Slips.{slip}
 use Rattle.bundle_model.specs.Shedding.{place_in}
 use Rattle.relay_model.specs.Chronicles.{Entry, Stored, history_of, stored_of}
 use Rattle.fork_db.specs.Forks.{Forks}
-use Rattle.wait_room.specs.Rooms.{AreKept, Room}
+use Rattle.wait_room.specs.Rooms.{AreKept}
 use Rattle.block_intake.specs.Intakes.{TakenIn, world_taken}
 use Rattle.stored_blocks.specs.BundlePlans.{IsHeldAt}
-use Rattle.stored_blocks.specs.Stored.{HasReleased, IsIndex, is_gone}
+use Rattle.stored_blocks.specs.Stored.{HasReleased, IsIndex}
 use Rattle.block_relay.specs.declared.marks.Mark.TheVariants as mark
-use Rattle.block_relay.specs.Chronicle.{Told, entry_at, has_kind_mark, limits_told, told_with, world_told}
+use Rattle.block_relay.specs.Chronicle.{Told, entry_at, has_kind_mark, limits_told, told_with}
 use Rattle.block_relay.specs.Held.{AreGone}
 use Rattle.block_relay.proofs.AdmissionFacts.{kept_as}
 use Rattle.block_relay.proofs.KeptFacts.{entries_on, marks_push}
-use Rattle.block_relay.proofs.StoredFacts.{entry_none, entry_some, gone_more, index_low, marks_on, marks_some, payload, stores}
+use Rattle.block_relay.proofs.StoredFacts.{entry_some, gone_more, index_low, marks_on, marks_some, payload, stores}
 use Rattle.block_relay.proofs.relay.Relay.store.Goals as goal
 
 pub store-requires : goal.store-requires
@@ -52,15 +50,15 @@ invariant_of-self c =
     let pushed : reverse c.push_reserved.new.self.items ≡ mark.Stored at ∷ reverse t.marks.items = ap reverse c.push_reserved.ensures.items ∙ marks_push t.marks.items (mark.Stored at) in
     let entries = entries_on new t.intake t.run (limits_told t.limits) t.size t.kind _ _ (reverse t.waited.items) (reverse t.waited.items) (ap (λ (x : TakenIn). x.first) c.release.ensures) (ap (λ (x : TakenIn). x.forks.history) c.release.ensures) pushed refl in (
       kept_as _ (Stored at ∷ old.entries) _ _ new t.kind t.kind t.closed t.run t.size entries refl refl
-      (stores old.entries old.conflicts t.intake new t.kind t.closed t.run t.size at held.low (ap world_taken c.release.ensures) c.self.invariant.0),
+          (stores old.entries old.conflicts t.intake new t.kind t.closed t.run t.size at held.low (ap world_taken c.release.ensures) c.self.invariant.0),
       marks_on t.closed t.intake new t.stored c.store.new.self _ _ _ _ c.self.invariant.1
-      (omega (arith, ap (λ (x : TakenIn). length x.forks.history) c.release.ensures, c.store.ensures.stored, c.push_reserved.ensures.len, c.push_reserved.ensures.capacity)),
+          (omega (arith, ap (λ (x : TakenIn). length x.forks.history) c.release.ensures, c.store.ensures.stored, c.push_reserved.ensures.len, c.push_reserved.ensures.capacity)),
       λ e. ap has_kind_mark pushed ∙ c.self.invariant.2 e,
       subst AreKept (sym (ap (λ (x : TakenIn). x.room) c.release.ensures)) c.self.invariant.3,
       subst (λ (g : Forks). IsIndex g c.store.new.self) c.history-2.ensures c.store.ensures.index,
       subst (λ (es : List Entry). AreGone (stored_of es) new.forks.held) (sym entries)
-      (subst (λ (x : TakenIn). AreGone (at ∷ stored_of old.entries) x.forks.held) (sym c.release.ensures)
-      (gone_more (stored_of old.entries) t.intake.forks.held at (omega (arith, held.low, c.self.invariant.4.same)) c.self.invariant.5)),
+          (subst (λ (x : TakenIn). AreGone (at ∷ stored_of old.entries) x.forks.held) (sym c.release.ensures)
+          (gone_more (stored_of old.entries) t.intake.forks.held at (omega (arith, held.low, c.self.invariant.4.same)) c.self.invariant.5)),
       c.self.invariant.6,
     )
 

@@ -1,5 +1,4 @@
-use Rattle.std.proofs.Common.{◌≡◌, ◌-◌, length, ap, sym, ◌∙◌, subst}
-use Rattle.bundle_model.specs.Retained.{stored_finals}
+use Rattle.std.proofs.Common.{◌∙◌, subst}
 use Rattle.block_relay.specs.Chronicle.{IsKept, Told, world_told}
 use Rattle.block_relay.specs.Held.{AreGone}
 use Rattle.block_relay.proofs.StoredFacts.{finals_is}
