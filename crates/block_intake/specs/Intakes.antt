@@ -1,5 +1,5 @@
 -- What callers see of an intake, and the world that it stands for.
-use Rattle.std.specs.Prelude.{ℕ, ◌≡◌, ◌+◌, ◌<◌, ◌≤◌, ◌^◌, true, false, Bool, List, [], ◌∷◌, length, set, Option, None, Some, Result}
+use Rattle.std.specs.Prelude.{ℕ, ◌≡◌, ◌+◌, ◌<◌, ◌≤◌, ◌^◌, true, false, Bool, List, [], ◌∷◌, set, Option, None, Some, Result}
 use Rattle.block_record.specs.declared.blocks.Kind.{Kind}
 use Rattle.block_record.specs.declared.blocks.Slip.{Slip}
 use Rattle.relay_model.specs.Worlds.{World, Limits, descendants, usual_size}
