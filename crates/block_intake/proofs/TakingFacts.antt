@@ -1,6 +1,7 @@
 -- The waiting blocks as they are taken: what was dropped, as the history grows, and what may be taken next.
 use Rattle.std.proofs.Common.{arith, ◌≡◌, ◌≤◌, ◌+◌, List, [], ◌∷◌, ◌++◌, length, Option, Some, None, refl, sym, ap, ◌∙◌, IsSome, ℕ, false, true, is_some, filter, inl, inr, subst}
 use Rattle.std.specs.List.{AllByRecursion}
+use Rattle.std.proofs.lemmas.List.{append_assoc, append-nil, length-append}
 use Rattle.std.specs.Option.{option_map}
 use Rattle.block_record.specs.declared.blocks.Block.{Block}
 use Rattle.block_record.specs.declared.blocks.Slip.{Slip}
@@ -11,13 +12,13 @@ use Rattle.chain_model.specs.Ancestry.{has_id}
 use Rattle.chain_model.specs.Finality.{root_num}
 use Rattle.fork_db.specs.Forks.{Forks}
 use Rattle.fork_db.specs.Verdicts.{verdict_of, fits}
-use Rattle.wait_room.specs.Rooms.{Room, children_in, linked_in, room_without}
+use Rattle.wait_room.specs.Rooms.{AreKept, Room, children_in, linked_in, room_without}
 use Rattle.wait_room.proofs.public.LinkedFacts.{linked_more, none_held}
 use Rattle.relay_model.proofs.public.Judged.{IsTaker, judged_takes}
 use Rattle.relay_model.proofs.public.Sound.{first_intake, new_parts, rises_above, starts}
 use Rattle.block_intake.proofs.JudgedFacts.{fits_child}
 use Rattle.relay_model.proofs.public.Intakes.{keeps_one, next_is}
-use Rattle.block_intake.specs.Taking.{AreAllSome, CanStart, CanTake, KeepsLimits, dropped_after, history_after}
+use Rattle.block_intake.specs.Taking.{CanStart, CanTake, HoldsMore, KeepsLimits, StaysHeld, dropped_after, history_after}
 use Rattle.block_intake.proofs.CountFacts.{counts_first, counts_one, next_counts}
 
 abbrev pub intake_by : List Slip → List Slip → List Clash → Intake
@@ -91,9 +92,29 @@ without_bytes room None = refl
 without_bytes room (Some s) = refl
 
 -- one more block that has its payload
-pub all_some_push : (held : List (Option Block)) (o : Option Block) → AreAllSome held → IsSome o → AreAllSome (held ++ o ∷ [])
-all_some_push [] o all some = (some, tt)
-all_some_push (x ∷ xs) o all some = (all.0, all_some_push xs o all.1 some)
+pub holds_one : (old new : Forks) (s : Slip) (o : Option Block) → new.history ≡ s ∷ old.history → new.held ≡ old.held ++ o ∷ [] → IsSome o → HoldsMore old new
+holds_one old new s o history held some = record { more = s ∷ []; history = history; kept = o ∷ []; held = held; given = (some, tt); same = refl }
+
+pub holds_same : (old new : Forks) → new.history ≡ old.history → new.held ≡ old.held → HoldsMore old new
+holds_same old new history held = record { more = []; history = history; kept = []; held = held ∙ sym (append-nil old.held); given = tt; same = refl }
+
+-- more, and then more
+pub holds_twice : (a b c : Forks) → HoldsMore a b → HoldsMore b c → HoldsMore a c
+holds_twice a b c h k = record {
+  more = k.more ++ h.more;
+  history = k.history ∙ ap (λ l. k.more ++ l) h.history ∙ sym (append_assoc k.more h.more a.history);
+  kept = h.kept ++ k.kept;
+  held = k.held ∙ ap (λ l. l ++ k.kept) h.held ∙ append_assoc a.held h.kept k.kept;
+  given = both h.kept h.given;
+  same = let s = h.same in let t = k.same in omega (arith, s, t, length-append h.kept k.kept, length-append k.more h.more);
+}
+  where
+    both : (xs : List (Option Block)) → AllByRecursion IsSome xs → AllByRecursion IsSome (xs ++ k.kept)
+    both [] all = k.given
+    both (x ∷ xs) all = (all.0, both xs all.1)
+
+pub stays_twice : (a b c : Forks) (x y : Room) → StaysHeld a b x → (AreKept x → StaysHeld b c y) → StaysHeld a c y
+stays_twice a b c x y h f = let k = f h.waiting in record { more = holds_twice a b c h.more k.more; waiting = k.waiting }
 
 -- limits stay twice
 pub limits_twice : (a b c : Forks) (x y z : Room) → KeepsLimits a x b y → KeepsLimits b y c z → KeepsLimits a x c z

@@ -1,17 +1,17 @@
 -- What callers see of an intake, and the world that it stands for.
-use Rattle.std.specs.Prelude.{ℕ, ◌≡◌, ◌+◌, ◌<◌, ◌≤◌, ◌^◌, true, false, Bool, List, [], ◌∷◌, length, Option, None, Some, Result}
+use Rattle.std.specs.Prelude.{ℕ, ◌≡◌, ◌+◌, ◌<◌, ◌≤◌, ◌^◌, true, false, Bool, List, [], ◌∷◌, set, Option, None, Some, Result}
 use Rattle.block_record.specs.declared.blocks.Kind.{Kind}
 use Rattle.block_record.specs.declared.blocks.Slip.{Slip}
 use Rattle.relay_model.specs.Worlds.{World, Limits, descendants, usual_size}
 use Rattle.relay_model.specs.Offers.{answer_by, plain_kind, world_by}
 use Rattle.relay_model.specs.Verdicts.{Verdict}
 use Rattle.fork_db.specs.Forks.{Forks}
-use Rattle.wait_room.specs.Rooms.{Room}
+use Rattle.wait_room.specs.Rooms.{AreKept, Room}
 use Rattle.block_intake.specs.declared.limits.IntakeLimits.{IntakeLimits}
 use Rattle.block_intake.specs.declared.answers.Offered.{Offered}
 use Rattle.block_intake.specs.declared.answers.OfferFault.{OfferFault}
 use Rattle.block_intake.specs.Answers.{IsAnswer, is_mem}
-use Rattle.block_intake.specs.Taking.{AreHeld}
+use Rattle.block_intake.specs.Taking.{StaysHeld}
 
 -- what callers see of an intake: the least number that is taken, the history and the blocks that wait, each with its limits and with what is kept of its blocks, and for how many dropped blocks there is memory
 pub record TakenIn : Type 0 where
@@ -59,10 +59,6 @@ pub record IsAlike (w v : World) : Type 0 where
 abbrev pub unnoted : World → World
 unnoted w = record w { conflicts = [] }
 
--- each block of the history and each that waits has its payload
-abbrev pub HoldsAll : TakenIn → Type 0
-HoldsAll t = AreHeld t.forks t.room
-
 -- nothing but memory was taken
 pub record IsUnchanged (old new : TakenIn) : Type 0 where
   pub first : new.first ≡ old.first
@@ -78,9 +74,13 @@ pub record HasRoomFor (t : TakenIn) (id : List ℕ) (most : ℕ) : Type 0 where
   pub spare : most ≤ t.spare
   pub small : most < 2 ^ 63
 
--- an offer was answered, and what the intake has then, as a verdict has it; nothing but memory was taken where there was not enough, and whether each payload is held stays so where the block was given
+-- an offer was answered, and what the intake has then, as a verdict has it; nothing but memory was taken where there was not enough, and where the block was given and each that waits has its payload, so has each that came
 pub record IsOffered (v : Verdict) (s : Slip) (given : Bool) (old new : TakenIn) (result : Result Offered OfferFault) : Type 0 where
   pub said : IsAnswer (answer_by (world_taken old) s v) result
   pub world : is_mem result ≡ false → world_taken new ≡ unnoted (world_by (world_taken old) s v)
   pub mem : is_mem result ≡ true → IsUnchanged old new
-  pub held : given ≡ true → HoldsAll old → HoldsAll new
+  pub held : given ≡ true → AreKept old.room → StaysHeld old.forks new.forks new.room
+
+-- an intake after the payload at a place was given up
+abbrev pub released : ℕ → TakenIn → TakenIn
+released at t = record t { forks = record t.forks { held = set t.forks.held at None } }

@@ -25,13 +25,18 @@ pub record Dropping : Type 0 where
 abbrev pub intake_of : Forks → Room → Dropping → Intake
 intake_of db room drops = record { history = db.history; waiting = room.waiting; dropped = drops.conflicts }
 
--- each block of the history has its payload
-abbrev pub AreAllSome : List (Option Block) → Type 0
-AreAllSome held = AllByRecursion IsSome held
+-- more blocks came to the history, each with its payload
+pub record HoldsMore (old new : Forks) : Type 0 where
+  pub more : List Slip
+  pub history : new.history ≡ more ++ old.history
+  pub kept : List (Option Block)
+  pub held : new.held ≡ old.held ++ kept
+  pub given : AllByRecursion IsSome kept
+  pub same : length kept ≡ length more
 
--- each block of the history and each that waits has its payload
-pub record AreHeld (db : Forks) (room : Room) : Type 0 where
-  pub history : AreAllSome db.held
+-- so they did, and each block that waits has its payload
+pub record StaysHeld (old new : Forks) (room : Room) : Type 0 where
+  pub more : HoldsMore old new
   pub waiting : AreKept room
 
 -- the limits of the history and of the room stay

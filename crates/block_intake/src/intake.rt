@@ -1,6 +1,6 @@
 //! The intake.
 
-ghost use Rattle.std.specs.Prelude.{◌≡◌, ◌<◌, ◌≤◌, ◌+◌, Err, IfErr, IfOk, IfSome, IsErr, OnErr, OnOk, length, true, false, ℕ};
+ghost use Rattle.std.specs.Prelude.{◌≡◌, ◌<◌, ◌≤◌, ◌+◌, [], Err, IfErr, IfOk, IfSome, IsErr, OnErr, OnOk, length, true, false, ℕ};
 ghost use Rattle.std.specs.Option.{is_some};
 ghost use Rattle.block_record.specs.declared.blocks.Slip.{Slip as SlipOf};
 ghost use Rattle.block_record.specs.SlipRefs.{slip_seen};
@@ -13,9 +13,11 @@ ghost use Rattle.relay_model.specs.Runs.{empty_world};
 ghost use Rattle.relay_model.specs.Soundness.{IsBlock, IsSound};
 ghost use Rattle.relay_model.specs.Worlds.{descendants, room_bytes};
 ghost use Rattle.block_intake.specs.Answers.{IsAnswer, is_mem};
-ghost use Rattle.block_intake.specs.Intakes.{HasRoomFor, HoldsAll, IsOffered, IsUnchanged, limits_in, unnoted, world_taken};
+ghost use Rattle.block_intake.specs.Intakes.{HasRoomFor, IsOffered, IsUnchanged, limits_in, released, unnoted, world_taken};
 ghost use Rattle.block_intake.specs.Judged.{IsLinked, verdict_of_judged};
-ghost use Rattle.block_intake.specs.Taking.{IsRoomFault};
+ghost use Rattle.block_intake.specs.Taking.{IsRoomFault, StaysHeld};
+ghost use Rattle.chain_model.specs.Ancestry.{has_id};
+ghost use Rattle.wait_room.specs.Rooms.{AreKept};
 
 use crate::answers::{OfferFault, Offered};
 use crate::drops::Drops;
@@ -71,7 +73,8 @@ impl Intake {
     /// No block, for blocks with numbers of at least `first`.
     pub fn new(alloc: Global, first: u64, limits: IntakeLimits) -> Result<Intake, AllocError>
         ensures world { IfOk result (λ t. world_taken t ≡ empty_world first 0 (limits_in limits)) }
-        ensures held { IfOk result HoldsAll }
+        ensures held { IfOk result (λ t. t.forks.held ≡ []) }
+        ensures waiting { IfOk result (λ t. AreKept t.room) }
     {
         let db = ForkDb::new(alloc, limits.history)?;
         Ok(Intake {
@@ -112,6 +115,21 @@ impl Intake {
         ensures { slip_at self.now.forks.history at ≡ Some result.now }
     {
         self.db.slip(at)
+    }
+
+    /// Whether a block with this id waits.
+    pub fn waits(&self, id: &Id) -> bool
+        ensures { result ≡ has_id self.now.room.waiting id.now }
+    {
+        self.room.find(id).is_some()
+    }
+
+    /// Gives up the payload at a place. The slip stays.
+    pub fn release(&mut self, at: usize)
+        requires { at < length self.old.forks.history }
+        ensures { self.new ≡ released at self.old }
+    {
+        self.db.release(at);
     }
 
     /// Which rule decides the offer of a block that is seen where it stands. It takes no memory.
@@ -157,7 +175,8 @@ impl Intake {
         // Without memory nothing has changed.
         ensures mem { is_mem result ≡ true → IsUnchanged self.old self.new }
         // What is kept.
-        ensures held { is_some block ≡ true → HoldsAll self.old → HoldsAll self.new }
+        ensures held { is_some block ≡ true → AreKept self.old.room
+            → StaysHeld self.old.forks self.new.forks self.new.room }
     {
         self.take(slip, block)
     }
@@ -197,7 +216,9 @@ impl Intake {
         requires waits { judge_in (world_taken self.old) slip ≡ verdict.Waiting }
         ensures ok { OnOk result (world_taken self.new
             ≡ world_by (world_taken self.old) slip verdict.Waiting) }
-        ensures held { is_some block ≡ true → HoldsAll self.old → HoldsAll self.new }
+        ensures forks { self.new.forks ≡ self.old.forks }
+        ensures held { is_some block ≡ true → AreKept self.old.room
+            → OnOk result (AreKept self.new.room) }
         ensures err { OnErr result (self.new ≡ self.old) }
     {
         self.room.put(slip, block)?;
@@ -270,7 +291,8 @@ impl Intake {
         ensures some { 0 < result.count }
         ensures most { result.count + length result.dropped.items
             ≤ 1 + descendants self.old.room.waiting slip.id }
-        ensures held { is_some block ≡ true → HoldsAll self.old → HoldsAll self.new }
+        ensures held { is_some block ≡ true → AreKept self.old.room
+            → StaysHeld self.old.forks self.new.forks self.new.room }
     {
         let from = self.db.len();
         let (db, room) = (&mut self.db, &mut self.room);

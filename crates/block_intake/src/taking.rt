@@ -7,8 +7,8 @@ ghost use Rattle.chain_model.specs.Ancestry.{has_id};
 ghost use Rattle.relay_model.specs.Offers.{clash, purged, take_in, take_one};
 ghost use Rattle.relay_model.specs.Worlds.{descendants, next_waiting};
 ghost use Rattle.fork_db.specs.Claims.{IsLinkOf};
-ghost use Rattle.wait_room.specs.Rooms.{linked_in};
-ghost use Rattle.block_intake.specs.Taking.{AreAllSome, AreHeld, CanStart, CanTake, KeepsLimits, dropped_after, history_after, intake_from, intake_of, IsRoomFault};
+ghost use Rattle.wait_room.specs.Rooms.{AreKept, linked_in};
+ghost use Rattle.block_intake.specs.Taking.{CanStart, CanTake, HoldsMore, KeepsLimits, StaysHeld, dropped_after, history_after, intake_from, intake_of, IsRoomFault};
 
 use crate::answers::OfferFault;
 use crate::drops::Drops;
@@ -117,7 +117,8 @@ pub fn admit_with_followers(
     ensures dropped { drops.new.conflicts
         ≡ (intake_from db.old.history room.old.waiting slip).dropped }
     ensures limits { KeepsLimits db.old room.old db.new room.new }
-    ensures held { is_some block ≡ true → AreHeld db.old room.old → AreHeld db.new room.new }
+    ensures held { is_some block ≡ true → AreKept room.old
+        → StaysHeld db.old db.new room.new }
 {
     let children = room.children(&slip.id);
     let _ = db.append_reserved(slip, block, linked);
@@ -137,7 +138,7 @@ fn take_waiting(db: &mut ForkDb, room: &mut WaitRoom, drops: &mut Drops, linked:
     ensures taken { intake_of db.new room.new drops.new
         ≡ take_in (length room.old.waiting) (intake_of db.old room.old drops.old) }
     ensures limits { KeepsLimits db.old room.old db.new room.new }
-    ensures held { AreHeld db.old room.old → AreHeld db.new room.new }
+    ensures held { AreKept room.old → StaysHeld db.old db.new room.new }
 {
     let mut left = linked;
     for _ in 0..room.blocks() {
@@ -162,7 +163,7 @@ fn take_next(db: &mut ForkDb, room: &mut WaitRoom, drops: &mut Drops, linked: u6
     ensures can { CanTake (intake_of db.new room.new drops.new) db.new.room }
     ensures spare { CanTake (intake_of db.new room.new drops.new) drops.new.spare }
     ensures limits { KeepsLimits db.old room.old db.new room.new }
-    ensures held { AreHeld db.old room.old → AreHeld db.new room.new }
+    ensures held { AreKept room.old → StaysHeld db.old db.new room.new }
 {
     // Fewer than 2^63 blocks wait, and no more are linked.
     let _ = room.blocks();
@@ -203,7 +204,7 @@ fn place(
     ensures room { db.old.room ≤ db.new.room + 1 }
     ensures spare { drops.old.spare ≤ drops.new.spare + 1 }
     ensures limit { db.new.limit ≡ db.old.limit }
-    ensures held { is_some block ≡ true → AreAllSome db.old.held → AreAllSome db.new.held }
+    ensures held { is_some block ≡ true → HoldsMore db.old db.new }
 {
     let parent = db.find(&slip.parent_id).unwrap();
     match link_child(db, parent, SlipRef::of_slip(&slip)) {

@@ -1,7 +1,7 @@
 -- What an offer leaves, verdict by verdict.
-use Rattle.std.proofs.Common.{arith, ◌≡◌, ◌<◌, ◌+◌, ◌++◌, ℕ, false, List, [], length, Result, Err, refl, sym, ◌∙◌, ap, subst}
+use Rattle.std.proofs.Common.{arith, ◌≡◌, ◌<◌, ◌+◌, ◌++◌, ℕ, false, [], length, Result, Err, refl, sym, ◌∙◌, ap, subst}
 use Rattle.block_record.specs.declared.blocks.Slip.{Slip}
-use Rattle.relay_model.specs.Worlds.{World, descendants}
+use Rattle.relay_model.specs.Worlds.{descendants}
 use Rattle.relay_model.specs.Offers.{HistoryFull, answer_by, judge, judge_limit, world_by}
 use Rattle.relay_model.specs.Verdicts.{Verdict}
 use Rattle.relay_model.specs.Verdicts as verdict

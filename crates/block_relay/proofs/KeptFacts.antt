@@ -15,8 +15,8 @@ use Rattle.relay_model.specs.Verdicts.{Verdict}
 use Rattle.relay_model.specs.Verdicts as verdict
 use Rattle.relay_model.proofs.public.Entries.{offer_adds}
 use Rattle.relay_model.proofs.public.Judged.{judged_waits}
-use Rattle.relay_model.proofs.public.Sound.{empty_sound, keeps_by, none_found, same_sound}
-use Rattle.block_intake.specs.Intakes.{IsAlike, IsUnchanged, TakenIn, unnoted, world_taken}
+use Rattle.relay_model.proofs.public.Sound.{keeps_by, none_found, same_sound}
+use Rattle.block_intake.specs.Intakes.{IsUnchanged, TakenIn, unnoted, world_taken}
 use Rattle.block_intake.proofs.public.AlikeFacts.{alike_on, judge_alike, world_alike}
 use Rattle.block_intake.proofs.public.IntakeFacts.{unchanged_world}
 use Rattle.block_relay.specs.declared.marks.Mark.{Mark}

@@ -2,3 +2,5 @@ pub mod KeptFacts
 pub mod DoneFacts
 pub mod AdmissionFacts
 pub mod HeldFacts
+mod StoredFacts
+mod ResizeFacts

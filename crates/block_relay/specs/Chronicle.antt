@@ -1,11 +1,14 @@
 -- What callers see of a relay, and what it keeps of it.
-use Rattle.std.specs.Prelude.{ℕ, ◌≡◌, Bool, true, false, List, [], ◌∷◌, ◌++◌, reverse, Option, None, Some}
+use Rattle.std.specs.Prelude.{ℕ, ◌≡◌, ◌==◌, Bool, true, false, List, [], ◌∷◌, ◌++◌, reverse, if◌then◌else◌, Option, None, Some}
+use Rattle.std.specs.List.{list_any}
 use Rattle.std.specs.Str.{bytes_eq}
 use Rattle.block_record.specs.declared.blocks.Slip.{Slip}
 use Rattle.block_record.specs.declared.blocks.Kind.{Kind as NodeKind}
 use Rattle.relay_model.specs.declared.answers.Conflict.{Conflict as Clash}
 use Rattle.relay_model.specs.Worlds.{World, Limits}
-use Rattle.relay_model.specs.Chronicles.{Entry, Opened, Kind, Admitted, Waited, Stored, Closed, world_of}
+use Rattle.relay_model.specs.Chronicles.{Entry, Opened, Kind, Admitted, Waited, Stored, Closed, history_of, stored_of, world_of}
+use Rattle.bundle_model.specs.Plans.{Plan}
+use Rattle.bundle_model.specs.Shedding.{place_in}
 use Rattle.relay_model.specs.Soundness.{IsSound}
 use Rattle.block_intake.specs.Intakes.{IsAlike, TakenIn, world_taken}
 use Rattle.block_relay.specs.declared.limits.Limits.{Limits as PlantLimits}
@@ -88,3 +91,23 @@ may_greet (Some held) k = bytes_eq held.block_type k.block_type
 abbrev pub greeted : Option NodeKind → NodeKind → List Entry → List Entry
 greeted None k es = Kind k ∷ es
 greeted (Some held) k es = es
+
+-- the entries after the block at a place, where there is one, came to be stored
+abbrev pub entry_at : List Entry → Option ℕ → List Entry
+entry_at es None = es
+entry_at es (Some at) = if list_any (λ n. n == at) (stored_of es) then es else Stored at ∷ es
+
+-- the entries after blocks, one after another, came to be stored: of each that is in the history and was not stored
+abbrev pub stored_entries : List Slip → List Entry → List Slip → List Entry
+stored_entries newest es [] = es
+stored_entries newest es (s ∷ rest) = stored_entries newest (entry_at es (place_in newest s)) rest
+
+-- the entries after a plan was shed
+abbrev pub shed_entries : List Entry → Plan → List Entry
+shed_entries es plan = stored_entries (history_of es) es (plan.finals ++ plan.dead)
+
+-- the entries with bundles of another size
+abbrev pub resized : ℕ → List Entry → List Entry
+resized size [] = []
+resized size (Opened first run limits n ∷ es) = Opened first run limits size ∷ resized size es
+resized size (e ∷ es) = e ∷ resized size es

@@ -7,6 +7,7 @@ mod kinds;
 mod limits;
 mod marks;
 mod memory;
+mod merging;
 mod notes;
 mod relay;
 
@@ -15,3 +16,4 @@ pub use block_intake::{Conflict, ConflictKind, OfferFault, Offered};
 pub use limits::Limits;
 pub use relay::Relay;
 pub use relay_look::{Look, LookFault, Position};
+pub use stored_blocks::BundlePlan;

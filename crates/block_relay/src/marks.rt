@@ -16,7 +16,7 @@ pub enum Mark {
     /// The next block that was answered `Waiting`.
     Waited,
     /// The block at this place is stored.
-    Stored(u32),
+    Stored(usize),
     /// The relay is closed.
     Closed,
 }

@@ -1,6 +1,6 @@
 //! The memory of what a relay takes, taken before anything changes.
 
-ghost use Rattle.std.specs.Prelude.{◌≡◌, ◌<◌, ◌≤◌, ◌+◌, ◌-◌, length, vec_len, vec_capacity, ℕ, Err, IfErr, IsErr, OnOk};
+ghost use Rattle.std.specs.Prelude.{◌≡◌, ◌<◌, ◌≤◌, ◌+◌, ◌-◌, ◌*◌, ◌^◌, length, vec_len, vec_capacity, ℕ, Err, IfErr, IsErr, OnOk};
 ghost use Rattle.block_intake.specs.Intakes.{IsUnchanged};
 ghost use Rattle.block_intake.specs.Taking.{IsRoomFault};
 ghost use Rattle.relay_model.specs.Worlds.{descendants};
@@ -10,18 +10,25 @@ use crate::marks::Mark;
 use block_intake::{Conflict, Intake, OfferFault, reserve_buffers};
 use block_record::{Id, Slip, SlipBuffer};
 use std::alloc::{AllocError, Global};
+use stored_blocks::StoredBlocks;
 
-/// Makes room for a block that waits, and for the last mark after it.
-pub fn reserve_waiting(waited: &mut Vec<Slip>, marks: &mut Vec<Mark>) -> Result<(), AllocError>
-    ensures waited { waited.new.items ≡ waited.old.items }
-    ensures marks { marks.new.items ≡ marks.old.items }
+/// Makes room for the marks of a block and so many that follow, of their being stored, of the kind and
+/// of the end, beside one for each block that is retained.
+pub fn reserve_marks(marks: &mut Vec<Mark>, retained: u64, follow: u64) -> Result<(), AllocError>
+    requires { follow < 2 ^ 63 }
+    ensures items { marks.new.items ≡ marks.old.items }
     ensures len { vec_len marks.new ≡ vec_len marks.old }
     ensures capacity { vec_capacity marks.old ≤ vec_capacity marks.new }
-    ensures ok { OnOk result ((vec_len waited.new < vec_capacity waited.new)
-        × (vec_len marks.new + 2 ≤ vec_capacity marks.new)) }
+    ensures ok { OnOk result
+        (vec_len marks.new + (retained + 2 * follow + 4) ≤ vec_capacity marks.new) }
 {
-    waited.reserve(1)?;
-    marks.reserve(2)
+    let Some(once) = retained.checked_add(follow + 2) else {
+        return Err(AllocError);
+    };
+    match once.checked_add(follow + 2) {
+        Some(room) => marks.reserve(room as usize),
+        None => Err(AllocError),
+    }
 }
 
 /// Takes the memory to admit a block of the id with the waiting blocks that descend from it: to append
@@ -30,17 +37,20 @@ pub fn reserve_admission(
     alloc: Global,
     id: &Id,
     intake: &mut Intake,
+    stored: &mut StoredBlocks,
     marks: &mut Vec<Mark>,
     conflicts: &mut Vec<Conflict>,
     buffers: &mut Vec<SlipBuffer>,
 ) -> Result<(), OfferFault>
+    requires { stored.old.stored ≤ length intake.old.forks.history }
     ensures unchanged { IsUnchanged intake.old intake.new }
+    ensures stored { stored.new ≡ record stored.old { room = stored.new.room } }
     ensures marks { marks.new.items ≡ marks.old.items }
     ensures conflicts { conflicts.new.items ≡ conflicts.old.items }
     ensures len { vec_len marks.new ≡ vec_len marks.old }
     ensures capacity { vec_capacity marks.old ≤ vec_capacity marks.new }
     ensures ok { OnOk result (HasMemory (descendants intake.old.room.waiting id.now)
-        intake.new (vec_capacity marks.new - vec_len marks.new)
+        intake.new stored.new (vec_capacity marks.new - vec_len marks.new)
         (vec_capacity conflicts.new - vec_len conflicts.new) (vec_len buffers.new)) }
     // `HistoryFull` comes exactly where so many would pass the limit, but for want of memory.
     ensures full { (len need : ℕ) → result ≡ Err (OfferFault.HistoryFull len need)
@@ -52,7 +62,8 @@ pub fn reserve_admission(
     ensures faults { IfErr result IsRoomFault }
 {
     let follow = intake.make_room(id)?;
-    marks.reserve(follow as usize + 3)?;
+    reserve_marks(marks, intake.len() - stored.stored(), follow)?;
+    stored.reserve(follow as usize + 1)?;
     conflicts.reserve(follow as usize)?;
     reserve_buffers(alloc, 2 * follow as usize, buffers)?;
     Ok(())

@@ -7,6 +7,7 @@ ghost use Rattle.std.specs.Option.{option_copied, option_map};
 ghost use Rattle.block_record.specs.Slips.{slip as slip_of_block};
 ghost use Rattle.block_tree.specs.Places.{slip_at};
 ghost use Rattle.block_record.specs.declared.blocks.Slip.{Slip as SlipOf};
+ghost use Rattle.bundle_model.specs.Bundles.{is_size};
 ghost use Rattle.chain_model.specs.declared.places.Mode.{Mode as ModeOf};
 ghost use Rattle.chain_model.specs.Places.{steps_to};
 ghost use Rattle.fork_db.specs.Claims.{IsLinkOf};
@@ -28,7 +29,7 @@ use crate::answers::KindFault;
 use crate::kinds::{copy_kind, kind_clash, kind_of_root};
 use crate::limits::{Limits, intake_limits};
 use crate::marks::{Mark, keep_root_kind, mark_admitted};
-use crate::memory::{reserve_admission, reserve_waiting};
+use crate::memory::{reserve_admission, reserve_marks};
 use crate::notes::note_dropped;
 use block_intake::{Admission, Conflict, ConflictKind, Intake, Judged, OfferFault, Offered};
 use block_record::{Block, Kind, Slip, SlipBuffer, SlipRef, copy_slip, slip_of};
@@ -38,9 +39,10 @@ use std::alloc::{AllocError, Global};
 use std::marker::Model;
 use std::sync::Arc;
 use step_cursor::Request;
+use stored_blocks::StoredBlocks;
 
-/// How many numbers a bundle covers.
-const BUNDLE_SIZE: u64 = 100;
+/// How many numbers a bundle covers, where no other size is set.
+const USUAL_SIZE: u64 = 100;
 
 /// A history that several nodes feed, and the blocks that wait for their parents, with all payloads.
 /// Contracts see the entries of its chronicle and the conflicts, what came last first.
@@ -48,24 +50,30 @@ const BUNDLE_SIZE: u64 = 100;
 pub struct Relay {
     run: u64,
     limits: Limits,
-    size: u64,
+    pub(crate) size: u64,
     kind: Option<Kind>,
-    intake: Intake,
+    pub(crate) intake: Intake,
+    /// Which blocks are stored: those whose payloads the intake's history gave up.
+    pub(crate) stored: StoredBlocks,
     /// The slips of the blocks that were answered `Waiting`.
     waited: Vec<Slip>,
-    /// What was taken. There is room for the last one, which closes the relay.
-    marks: Vec<Mark>,
+    /// What was taken. There is room for one more for each block that is not stored, and for the
+    /// last one, which closes the relay.
+    pub(crate) marks: Vec<Mark>,
     conflicts: Vec<Conflict>,
     /// Memory to note the conflicts of blocks that an admission drops.
     buffers: Vec<SlipBuffer>,
     closed: bool,
-    alloc: Global,
+    pub(crate) alloc: Global,
 }
 
 impl Model for Relay {
-    ghost use Rattle.std.specs.Prelude.{◌≡◌, ◌<◌, reverse, vec_len, vec_capacity, false, None};
-    ghost use Rattle.block_intake.specs.Intakes.{HoldsAll};
+    ghost use Rattle.std.specs.Prelude.{◌≡◌, reverse, vec_len, vec_capacity, false, None, IsTrue};
+    ghost use Rattle.bundle_model.specs.Bundles.{is_size};
+    ghost use Rattle.stored_blocks.specs.Stored.{IsIndex};
+    ghost use Rattle.wait_room.specs.Rooms.{AreKept};
     ghost use Rattle.block_relay.specs.Chronicle.{IsKept, Told, has_kind_mark, limits_told, told_with, world_told};
+    ghost use Rattle.block_relay.specs.Held.{AreGone, HasMarksLeft};
 
     ghost Value = { Told };
 
@@ -75,9 +83,13 @@ impl Model for Relay {
     ghost invariant = { λ t. IsKept (world_told (told_with t.intake t.run (limits_told t.limits)
         t.size t.kind t.marks.items t.waited.items t.conflicts.items))
         t.intake t.kind t.closed t.run t.size
-        × (t.closed ≡ false → vec_len t.marks < vec_capacity t.marks)
+        × HasMarksLeft t.closed t.intake t.stored (vec_len t.marks) (vec_capacity t.marks)
         × (t.kind ≡ None → has_kind_mark (reverse t.marks.items) ≡ false)
-        × HoldsAll t.intake };
+        × AreKept t.intake.room
+        × IsIndex t.intake.forks t.stored
+        × AreGone (world_told (told_with t.intake t.run (limits_told t.limits)
+        t.size t.kind t.marks.items t.waited.items t.conflicts.items)).stored t.intake.forks.held
+        × IsTrue (is_size t.size) };
 }
 
 impl Relay {
@@ -92,9 +104,10 @@ impl Relay {
         Ok(Relay {
             run,
             limits,
-            size: BUNDLE_SIZE,
+            size: USUAL_SIZE,
             kind: None,
             intake,
+            stored: StoredBlocks::new(alloc),
             waited: Vec::new(alloc),
             marks,
             conflicts: Vec::new(alloc),
@@ -112,9 +125,10 @@ impl Relay {
         self.kind.as_ref()
     }
 
-    /// How many numbers a bundle covers.
+    /// How many numbers a bundle covers: 100 or 1,000.
     pub fn size(&self) -> u64
-        ensures { result ≡ (world_told self.now).size }
+        ensures size { result ≡ (world_told self.now).size }
+        ensures sized { IsTrue (is_size result) }
     {
         self.size
     }
@@ -157,7 +171,7 @@ impl Relay {
         ensures err { OnErr result (self.new.entries ≡ self.old.entries) }
     {
         let kept = copy_kind(kind)?;
-        self.marks.reserve(2)?;
+        reserve_marks(&mut self.marks, self.intake.len() - self.stored.stored(), 0)?;
         self.marks.push_reserved(Mark::Kind);
         self.kind = Some(kept);
         Ok(())
@@ -228,7 +242,8 @@ impl Relay {
 
     /// Appends the steps of a batch from an index, at most `max`, each with its slip, its block where
     /// it is still held, and the place after it: none where the index is at or past their end. The
-    /// history may have grown since the batch was given. Each block is held, and is that of its step.
+    /// history may have grown since the batch was given. Each block that is not stored is held, and is
+    /// that of its step.
     /// At an error `out` is as it was.
     pub fn chunk(
         &self,
@@ -242,7 +257,7 @@ impl Relay {
             → IsGiven (world_told self.now).history older mode stop batch.now
             → OnOk result (map item_seen out.new.items ≡ map item_seen out.old.items
             ++ take max (drop from (steps_to older batch.now.place mode stop))) }
-        ensures held { OnOk result (AllByRecursion (HasBlock (world_told self.now).history)
+        ensures held { OnOk result (AllByRecursion (HasBlock (world_told self.now))
             (drop (length out.old.items) out.new.items)) }
         ensures own { OnOk result (AllByRecursion HasOwnBlock
             (drop (length out.old.items) out.new.items)) }
@@ -356,7 +371,8 @@ impl Relay {
     {
         let slip = slip_of(self.alloc, &block)?;
         let kept = copy_slip(&slip)?;
-        reserve_waiting(&mut self.waited, &mut self.marks)?;
+        self.waited.reserve(1)?;
+        reserve_marks(&mut self.marks, self.intake.len() - self.stored.stored(), 0)?;
         self.intake.let_wait(slip, Some(block))?;
         self.waited.push_reserved(kept);
         self.marks.push_reserved(Mark::Waited);
@@ -379,6 +395,7 @@ impl Relay {
             self.alloc,
             &slip.id,
             &mut self.intake,
+            &mut self.stored,
             &mut self.marks,
             &mut self.conflicts,
             &mut self.buffers,
@@ -388,6 +405,7 @@ impl Relay {
             count,
             dropped,
         } = self.intake.admit(slip, Some(block), linked);
+        self.stored.grow(self.intake.history());
         keep_root_kind(&mut self.kind, &mut self.marks, root_kind);
         mark_admitted(&mut self.marks, count);
         note_dropped(&mut self.conflicts, &mut self.buffers, &dropped);

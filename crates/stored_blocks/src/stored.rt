@@ -219,6 +219,7 @@ impl StoredBlocks {
     pub fn store(&mut self, db: &ForkDb, at: usize)
         requires { HasReleased self.old db.now at }
         ensures index { IsIndex db.now self.new }
+        ensures stored { self.new.stored ≡ self.old.stored + 1 }
         ensures room { self.new.room ≡ self.old.room }
     {
         let _ = db.len();

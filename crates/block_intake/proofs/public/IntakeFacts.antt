@@ -1,8 +1,10 @@
 -- What an intake has after an offer, by the rule that decides it.
-use Rattle.std.proofs.Common.{arith, cond, leb, ltb, inl, inr, ◌≡◌, ◌<◌, ◌≤◌, ◌+◌, ◌-◌, ◌++◌, ℕ, Bool, true, false, List, [], ◌∷◌, length, reverse, Option, Some, None, Result, Err, IsTrue, refl, sym, ◌∙◌, ap, subst}
+use Rattle.std.proofs.Common.{arith, cond, leb, ltb, inl, inr, ◌≡◌, ◌<◌, ◌≤◌, ◌+◌, ◌-◌, ◌++◌, ℕ, Bool, true, false, List, [], ◌∷◌, length, reverse, Option, Some, None, Result, Err, IsTrue, refl, sym, ◌∙◌, ap, subst, ◌||◌, is_some, Bor}
 use Rattle.std.proofs.lemmas.Bool.{cases_Bool, le-leb, ltb-false, ltb-true}
 use Rattle.std.proofs.lemmas.List.{length-append, reverse-reverse}
 use Rattle.block_record.specs.declared.blocks.Block.{Block}
+use Rattle.std.specs.Option.{option_copied}
+use Rattle.block_record.specs.Ids.{same_id}
 use Rattle.block_record.specs.declared.blocks.Slip.{Slip}
 use Rattle.chain_model.specs.Ancestry.{find_id, has_id}
 use Rattle.chain_model.specs.Finality.{root_num}
@@ -22,7 +24,11 @@ use Rattle.block_intake.specs.declared.answers.Offered.{Offered}
 use Rattle.block_intake.specs.declared.answers.OfferFault.{OfferFault}
 use Rattle.block_intake.specs.declared.answers.OfferFault.TheVariants as fault
 use Rattle.block_intake.specs.Answers.{IsAnswer, TakesMemory, is_mem}
-use Rattle.block_intake.specs.Intakes.{HoldsAll, IsOffered, IsUnchanged, TakenIn, limits_in, unnoted, untold_kind, world_taken}
+use Rattle.wait_room.specs.Rooms.{AreKept}
+use Rattle.block_intake.specs.Taking.{HoldsMore, StaysHeld}
+use Rattle.fork_db.specs.Forks.{Forks}
+use Rattle.block_intake.proofs.TakingFacts.{holds_same, holds_twice}
+use Rattle.block_intake.specs.Intakes.{IsOffered, IsUnchanged, TakenIn, limits_in, unnoted, untold_kind, world_taken}
 use Rattle.block_intake.specs.Judged.{HasParts}
 use Rattle.block_intake.specs.Taking.{IsRoomFault, KeepsLimits, intake_from}
 use Rattle.block_intake.proofs.CountFacts.{intake_within}
@@ -75,12 +81,16 @@ fits_room t s e =
 pub lacks_room : (t : TakenIn) (s : Slip) → judge (world_taken t) s ≡ verdict.Waiting → has_id t.room.waiting s.id ≡ false
 lacks_room t s e = (new_parts (world_taken t) s (judged_waits (world_taken t) s e).new).0
 
--- where nothing but memory was taken the world is the same, and so is what is held
+-- where nothing but memory was taken the world is the same, and no payload came or went
 pub unchanged_world : (old new : TakenIn) → IsUnchanged old new → world_taken new ≡ world_taken old
 unchanged_world old new u = rw (u.first, u.history, u.limit, u.room) refl
 
-pub unchanged_held : (old new : TakenIn) → IsUnchanged old new → HoldsAll old → HoldsAll new
-unchanged_held old new u h = record { history = rw u.held h.history; waiting = rw u.room h.waiting }
+pub unchanged_holds : (old new : TakenIn) → IsUnchanged old new → HoldsMore old.forks new.forks
+unchanged_holds old new u = holds_same old.forks new.forks u.history u.held
+
+-- and then blocks came
+pub unchanged_more : (old mid : TakenIn) (new : Forks) → IsUnchanged old mid → HoldsMore mid.forks new → HoldsMore old.forks new
+unchanged_more old mid new u h = holds_twice old.forks mid.forks new (unchanged_holds old mid u) h
 
 pub unchanged_same : (t : TakenIn) → IsUnchanged t t
 unchanged_same t = record { first = refl; history = refl; held = refl; limit = refl; room = refl }
@@ -93,7 +103,7 @@ stays_offered t s given v u result e said same =
       said = said;
       world = λ _. sym same;
       mem = λ _. unchanged_same t;
-      held = λ _ h. h;
+      held = λ _ h. record { more = holds_same t.forks t.forks refl refl; waiting = h };
     })
 
 -- a block that links is taken where the limit has room
@@ -138,7 +148,7 @@ refused_room old new s given (fault.HistoryFull len need) u is rule full =
       said = ap (λ n. Rattle.relay_model.specs.Offers.HistoryFull n need) (sym k.0);
       world = λ _. unchanged_world old new u;
       mem = λ m. absurd (grind (arith, m));
-      held = λ _ h. unchanged_held old new u h;
+      held = λ _ h. record { more = unchanged_holds old new u; waiting = rw u.room h };
     })
 refused_room old new s given fault.Mem u is rule full =
     let w = world_taken old in
@@ -146,7 +156,7 @@ refused_room old new s given fault.Mem u is rule full =
       said = subst (λ (x : Verdict). TakesMemory (answer_by w s x)) (sym rule) (limit_memory w s);
       world = λ m. absurd (grind (arith, m));
       mem = λ _. u;
-      held = λ _ h. unchanged_held old new u h;
+      held = λ _ h. record { more = unchanged_holds old new u; waiting = rw u.room h };
     }
 refused_room old new s given (fault.Closed len) u is rule full = absurd is
 refused_room old new s given (fault.Conflict c) u is rule full = absurd is
@@ -229,7 +239,7 @@ unchanged_sound old new u sound = subst IsSound (sym (unchanged_world old new u)
 
 -- a block that was admitted after room was made
 pub admitted_offer : (old mid new : TakenIn) (s : Slip) (given : Bool) (result : Result Offered OfferFault) → IsUnchanged old mid → judge (world_taken old) s ≡ verdict.Admitted
-    → IsAnswer (answer_by (world_taken mid) s verdict.Admitted) result → is_mem result ≡ false → world_taken new ≡ unnoted (world_by (world_taken mid) s verdict.Admitted) → (given ≡ true → HoldsAll mid → HoldsAll new)
+    → IsAnswer (answer_by (world_taken mid) s verdict.Admitted) result → is_mem result ≡ false → world_taken new ≡ unnoted (world_by (world_taken mid) s verdict.Admitted) → (given ≡ true → AreKept mid.room → StaysHeld mid.forks new.forks new.room)
     → IsOffered (judge (world_taken old) s) s given old new result
 admitted_offer old mid new s given result u rule said ok world held =
     let same = unchanged_world old mid u in
@@ -237,5 +247,27 @@ admitted_offer old mid new s given result u rule said ok world held =
       said = subst (λ (w : World). IsAnswer (answer_by w s verdict.Admitted) result) same said;
       world = λ _. world ∙ ap (λ (w : World). unnoted (world_by w s verdict.Admitted)) same;
       mem = λ m. absurd (grind (arith, m, ok));
-      held = λ g h. held g (unchanged_held old mid u h);
+      held = λ g h. let k = held g (rw u.room h) in record { more = unchanged_more old mid new.forks u k.more; waiting = k.waiting };
     })
+
+-- an answer for want of memory that leaves the intake as it is
+pub no_memory : (old new : TakenIn) (s : Slip) (given : Bool) (v u : Verdict) → v ≡ u → TakesMemory (answer_by (world_taken old) s v) → IsUnchanged old new → IsOffered u s given old new (Err fault.Mem)
+no_memory old new s given v u e takes same =
+    subst (λ (x : Verdict). IsOffered x s given old new (Err fault.Mem)) e (record {
+      said = takes;
+      world = λ m. absurd (grind (arith, m));
+      mem = λ _. same;
+      held = λ _ h. record { more = unchanged_holds old new same; waiting = rw same.room h };
+    })
+
+-- whether an id is found
+pub found_any : (xs : List Slip) (id : List ℕ) → is_some (find_id xs id) ≡ has_id xs id
+found_any [] id = refl
+found_any (x ∷ xs) id =
+    let ih = found_any xs id in
+    let P : Bool → Type 0 = λ b. is_some (cond b (Some x) (find_id xs id)) ≡ (b || has_id xs id) in
+    elim (same_id x.id id) as P [ true ↦ refl | false ↦ ih ]
+
+pub some_copied : (o : Option (Bor Slip)) → is_some o ≡ is_some (option_copied o)
+some_copied None = refl
+some_copied (Some s) = refl

@@ -1,4 +1,4 @@
-use Rattle.std.proofs.Common.{◌≡◌, ◌+◌, ◌∷◌, Some, None, false, ◌<◌, is_some, ap, sym, ◌∙◌, subst}
+use Rattle.std.proofs.Common.{◌≡◌, ◌+◌, ◌∷◌, Some, None, false, ◌<◌, is_some, ap, sym, ◌∙◌, refl, subst}
 use Rattle.block_record.specs.declared.blocks.Slip.{Slip}
 use Rattle.block_tree.proofs.public.PlaceFacts.{is_held, place_slip}
 use Rattle.block_tree.specs.Places.{place_of}
@@ -6,9 +6,9 @@ use Rattle.chain_model.specs.Ancestry.{has_id}
 use Rattle.fork_db.specs.Claims.{IsLinkOf}
 use Rattle.relay_model.specs.Offers.{clash, conflict}
 use Rattle.block_intake.specs.Judged.{clash_at, clash_of}
-use Rattle.block_intake.specs.Taking.{AreAllSome, dropped_after, history_after}
+use Rattle.block_intake.specs.Taking.{dropped_after, history_after}
 use Rattle.block_intake.proofs.JudgedFacts.{fits_child, some_is}
-use Rattle.block_intake.proofs.TakingFacts.{all_some_push, kept_some}
+use Rattle.block_intake.proofs.TakingFacts.{holds_one, holds_same, kept_some}
 use Rattle.wait_room.specs.Rooms.{linked_in}
 use Rattle.wait_room.proofs.public.LinkedFacts.{linked_more}
 use Rattle.block_intake.proofs.taking.place.Goals as goal
@@ -69,9 +69,12 @@ returns-in-Ok-clause-dropped c =
 
 pub returns-in-Ok-clause-held : goal.returns-in-Ok-clause-held
 returns-in-Ok-clause-held c =
-    λ some all.
+    λ some.
     let more = c.append_reserved.ensures.appended in
-    subst AreAllSome (sym more.held) (all_some_push c.args.db.now.held _ all (kept_some _ c.args.block some))
+    holds_one c.args.db.now _ c.args.slip _ more.history more.held (kept_some _ c.args.block some)
+
+pub returns-in-Err-clause-held : goal.returns-in-Err-clause-held
+returns-in-Err-clause-held c = λ some. holds_same c.args.db.now c.args.db.now refl refl
 
 pub returns-in-Ok-clause-linked : goal.returns-in-Ok-clause-linked
 returns-in-Ok-clause-linked c =

@@ -4,7 +4,7 @@ use Rattle.relay_model.specs.Offers.{take_in}
 use Rattle.relay_model.proofs.public.Intakes.{stays}
 use Rattle.wait_room.proofs.public.LinkedFacts.{none_next}
 use Rattle.block_intake.specs.Taking.{intake_of}
-use Rattle.block_intake.proofs.TakingFacts.{limits_twice}
+use Rattle.block_intake.proofs.TakingFacts.{limits_twice, stays_twice}
 use Rattle.block_intake.proofs.taking.take_waiting.Goals as goal
 
 pub returns-then-left-eq0-clause-taken : goal.returns-then-left-eq0-clause-taken
@@ -25,5 +25,5 @@ loop-preserved c =
       can = c.take_next-left.ensures.can;
       spare = c.take_next-left.ensures.spare;
       limits = limits_twice _ _ _ _ _ _ c.loop.invariant.limits c.take_next-left.ensures.limits;
-      held = λ h. c.take_next-left.ensures.held (c.loop.invariant.held h);
+      held = λ h. stays_twice _ _ _ _ _ (c.loop.invariant.held h) c.take_next-left.ensures.held;
     }

@@ -1,7 +1,7 @@
 use Rattle.std.proofs.Common.{◌≡◌, ◌-◌, length}
 use Rattle.relay_model.specs.Offers.{take_in}
-use Rattle.block_intake.specs.Taking.{AreHeld, CanTake, KeepsLimits, intake_of}
-use Rattle.wait_room.specs.Rooms.{linked_in}
+use Rattle.block_intake.specs.Taking.{CanTake, KeepsLimits, StaysHeld, intake_of}
+use Rattle.wait_room.specs.Rooms.{AreKept, linked_in}
 use Rattle.block_intake.proofs.taking.take_waiting.Given as goal
 
 abbrev pub invariant-loop : goal.invariant-loop
@@ -11,5 +11,5 @@ invariant-loop l = record {
   can : CanTake (intake_of l.db l.room l.drops) l.db.room;
   spare : CanTake (intake_of l.db l.room l.drops) l.drops.spare;
   limits : KeepsLimits l.fn.db l.fn.room l.db l.room;
-  held : AreHeld l.fn.db l.fn.room → AreHeld l.db l.room;
+  held : AreKept l.fn.room → StaysHeld l.fn.db l.db l.room;
 }

@@ -1,4 +1,4 @@
-use Rattle.std.proofs.Common.{arith, ◌≡◌, ◌-◌, ◌+◌, length, refl, ap, sym, subst, ◌∙◌}
+use Rattle.std.proofs.Common.{arith, ◌≡◌, ◌-◌, ◌+◌, length, refl, ap, sym, subst}
 use Rattle.std.proofs.lemmas.List.{length-append, length-reverse}
 use Rattle.relay_model.specs.Worlds.{descendants}
 use Rattle.relay_model.specs.Offers.{Admitted, answer_by, judge, world_by}

@@ -62,6 +62,13 @@ returns-clause-index c =
     let done = index_room f _ c.remove.new.self.room (released_on _ f c.args.at s.0 h c.len.ensures.sound s.1 c.remove.new.self.places _ _ none drops refl refl) in
     subst (λ (i : Index). IsIndex f (record i { stored = i.stored + 1 })) (sym (c.self-2.view_is ∙ c.store_final.ensures s.0 s.1)) done
 
+pub returns-clause-stored : goal.returns-clause-stored
+returns-clause-stored c =
+    let f = c.args.db.now in
+    let h = subst (λ (i : Index). HasReleased i f c.args.at) (sym c.self.view_is) c.requires in
+    let s = slip_there f.history c.args.at (subst (λ l. c.args.at < length l) (sym h.history) h.range) in
+    ap (λ (i : Index). i.stored + 1) (c.self-2.view_is ∙ c.store_final.ensures s.0 s.1) ∙ ap (λ (i : Index). i.stored + 1) c.self.view_is
+
 pub returns-clause-room : goal.returns-clause-room
 returns-clause-room c =
     let f = c.args.db.now in
