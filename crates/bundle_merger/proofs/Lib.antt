@@ -1,0 +1,3 @@
+mod WriteFacts
+mod RecordSizes
+mod DeadFacts
