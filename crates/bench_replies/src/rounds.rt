@@ -1,0 +1,79 @@
+//! The parts that are measured.
+
+use crate::sample::Sample;
+use anyhow::{Result, bail};
+use base64::engine::general_purpose::STANDARD;
+use chain_model::Step;
+use reply_text::print_step;
+use std::alloc::Global;
+use step_cursor::Tail;
+
+/// The run, and the length of the history that the step is sent from.
+const TAIL: Tail = Tail {
+    run: 1_764_640_800,
+    seen: 21_000_064,
+};
+
+/// What is done in each round.
+#[derive(Clone, Copy)]
+pub enum Part {
+    /// The line is printed.
+    Line,
+    /// The payload is put into base64.
+    Base64,
+    /// The line is copied.
+    Copy,
+}
+
+/// Does the part so often, and gives how many bytes it wrote.
+pub fn run_rounds(alloc: Global, part: Part, sample: &Sample, rounds: u64) -> Result<u64> {
+    let line = line_of(alloc, sample)?;
+    match part {
+        Part::Line => print_lines(line, sample, rounds),
+        Part::Base64 => encode_payloads(line, sample, rounds),
+        Part::Copy => copy_lines(alloc, &line, rounds),
+    }
+}
+
+/// The line of the step.
+fn line_of(alloc: Global, sample: &Sample) -> Result<Vec<u8>> {
+    let mut line = Vec::new(alloc);
+    print_step(Step::New, &sample.block, &sample.place, &TAIL, &mut line)?;
+    Ok(line)
+}
+
+/// Prints the line into this buffer, which has room for it.
+fn print_lines(mut line: Vec<u8>, sample: &Sample, rounds: u64) -> Result<u64> {
+    let mut done: u64 = 0;
+    for _ in 0..rounds {
+        line.clear();
+        print_step(Step::New, &sample.block, &sample.place, &TAIL, &mut line)?;
+        done = done.saturating_add(line.len() as u64);
+    }
+    Ok(done)
+}
+
+/// Puts the payload into base64 in this buffer, which has room for it.
+fn encode_payloads(mut text: Vec<u8>, sample: &Sample, rounds: u64) -> Result<u64> {
+    let payload = sample.block.payload.as_bytes();
+    let mut done: u64 = 0;
+    for _ in 0..rounds {
+        let Ok(length) = STANDARD.encode_slice(payload, text.as_mut_slice()) else {
+            bail!("the payload is longer than its line");
+        };
+        done = done.saturating_add(length as u64);
+    }
+    Ok(done)
+}
+
+/// Copies the line into a buffer that has room for it.
+fn copy_lines(alloc: Global, line: &[u8], rounds: u64) -> Result<u64> {
+    let mut copy = Vec::with_capacity(alloc, line.len())?;
+    let mut done: u64 = 0;
+    for _ in 0..rounds {
+        copy.clear();
+        copy.extend_from_slice(line)?;
+        done = done.saturating_add(copy.len() as u64);
+    }
+    Ok(done)
+}
