@@ -1,1 +1,2 @@
+mod AnswerFacts
 mod GivenFacts
