@@ -6,7 +6,7 @@
 mod rounds;
 mod sample;
 
-use anyhow::{Context, Result, bail};
+use anyhow::{Result, bail};
 use rounds::{Part, run_rounds};
 use sample::{Shape, new_sample};
 use std::env;
@@ -76,6 +76,5 @@ fn part_of(word: &str) -> Result<Part> {
 
 // The number in a word.
 fn number_of(word: &str) -> Result<u64> {
-    word.parse::<u64>()
-        .context(format_args!("reading {word:?}"))
+    Ok(word.parse::<u64>()?)
 }
