@@ -1,0 +1,5 @@
+//! Tests of what clients and a plant say to one another.
+#![tactic(auto)]
+
+#[cfg(test)]
+mod requests;
