@@ -185,12 +185,16 @@ fn other_lines_are_refused(rt: HostRuntime) -> Result<(), Fail> {
     Ok(())
 }
 
-/// A value with `deep` open arrays and objects: the request's own object is the first.
-fn nested(alloc: Global, deep: usize) -> Result<Vec<u8>, Fail> {
+/// A line whose object has a member with so many open arrays.
+fn nested(alloc: Global, arrays: u8) -> Result<Vec<u8>, Fail> {
     let mut line = Vec::new(alloc);
     line.extend_from_slice(b"{\"other\":")?;
-    line.resize(9 + deep - 1, b'[')?;
-    line.resize(9 + 2 * (deep - 1), b']')?;
+    for _ in 0..arrays {
+        line.push(b'[')?;
+    }
+    for _ in 0..arrays {
+        line.push(b']')?;
+    }
     line.push(b'}')?;
     Ok(line)
 }
@@ -198,7 +202,7 @@ fn nested(alloc: Global, deep: usize) -> Result<Vec<u8>, Fail> {
 #[test]
 fn values_nest_127_deep(rt: HostRuntime) -> Result<(), Fail> {
     let alloc = rt.alloc();
-    let deep = nested(alloc, 127)?;
+    let deep = nested(alloc, 126)?;
     let taken = parse_request(alloc, deep.as_slice());
     assert!(rt;
         taken
@@ -207,7 +211,7 @@ fn values_nest_127_deep(rt: HostRuntime) -> Result<(), Fail> {
             }),
         "127"
     );
-    let deeper = nested(alloc, 128)?;
+    let deeper = nested(alloc, 127)?;
     let refused = parse_request(alloc, deeper.as_slice());
     assert!(rt;
         refused
