@@ -2,4 +2,5 @@
 pub mod ListFacts
 pub mod NumberTexts
 pub mod RecordFacts
+pub mod RecordSizes
 pub mod SlipFacts

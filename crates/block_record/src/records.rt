@@ -43,9 +43,19 @@ pub fn encode(alloc: Global, block: &Block) -> Result<Vec<u8>, AllocError>
     ensures text { IfOk result (λ bytes. bytes.items ≡ record_text block.now) }
     ensures recordable { OnOk result (IsRecordable block.now) }
 {
-    let mut bytes = encode_fields(alloc, Form::Digested, block)?;
-    bytes.extend_from_slice(&block.digest)?;
+    let mut bytes = Vec::new(alloc);
+    push_record(block, &mut bytes)?;
     Ok(bytes)
+}
+
+/// Appends record 2 of a block. Without memory a part of it may have been appended.
+pub fn push_record(block: &Block, bytes: &mut Vec<u8>) -> Result<(), AllocError>
+    ensures text { OnOk result (bytes.new.items ≡ bytes.old.items ++ record_text block.now) }
+    ensures recordable { OnOk result (IsRecordable block.now) }
+{
+    push_fields(Form::Digested, block, bytes)?;
+    bytes.extend_from_slice(&block.digest)?;
+    Ok(())
 }
 
 /// Record 1 of a block: the version 1, and what record 2 has between its version and its digest.
@@ -53,23 +63,23 @@ pub fn encode_old(alloc: Global, block: &Block) -> Result<Vec<u8>, AllocError>
     ensures text { IfOk result (λ bytes. bytes.items ≡ old_record_text block.now) }
     ensures recordable { OnOk result (IsRecordable block.now) }
 {
-    let bytes = encode_fields(alloc, Form::Old, block)?;
+    let mut bytes = Vec::new(alloc);
+    push_fields(Form::Old, block, &mut bytes)?;
     Ok(bytes)
 }
 
-/// The version of a form, and the fields of a block.
-fn encode_fields(alloc: Global, form: Form, block: &Block) -> Result<Vec<u8>, AllocError>
-    ensures text { IfOk result
-        (λ bytes. bytes.items ≡ text_from (version_number form) (fields_of block.now)) }
+/// Appends the version of a form, and the fields of a block.
+fn push_fields(form: Form, block: &Block, bytes: &mut Vec<u8>) -> Result<(), AllocError>
+    ensures text { OnOk result (bytes.new.items
+        ≡ bytes.old.items ++ text_from (version_number form) (fields_of block.now)) }
     ensures recordable { OnOk result (IsRecordable block.now) }
 {
-    let mut bytes = Vec::new(alloc);
     bytes.push(version_byte(form))?;
-    push_numbers(block, &mut bytes)?;
-    push_id(&block.id, &mut bytes)?;
-    push_id(&block.parent_id, &mut bytes)?;
-    push_payload(&block.payload, &mut bytes)?;
-    Ok(bytes)
+    push_numbers(block, bytes)?;
+    push_id(&block.id, bytes)?;
+    push_id(&block.parent_id, bytes)?;
+    push_payload(&block.payload, bytes)?;
+    Ok(())
 }
 
 /// The first byte of a record of this form.

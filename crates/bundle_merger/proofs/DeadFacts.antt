@@ -11,7 +11,7 @@ use Rattle.one_block.specs.declared.faults.StoreFault.{StoreFault}
 use Rattle.bundle_merger.specs.Containers.{blocks_of, bundle_text}
 use Rattle.bundle_merger.specs.Writes.{IsStopped, Refuses, Writes, dead_file, dead_files, one_file, told_with_all}
 use Rattle.bundle_merger.proofs.WriteFacts.{stopped_first, stopped_front, stopped_rest, told_on}
-use Rattle.bundle_merger.proofs.RecordSizes.{shared_more}
+use Rattle.bundle_merger.proofs.MessageFacts.{shared_more}
 
 -- a block was shared alone, and its name was made
 pub record IsOne {Z : Type 0} (xs : List (Arc Block Z)) (i : ℕ) (name : List ℕ) (alone : List (Arc Block Z)) : Type 0 where

@@ -1,3 +1,3 @@
 mod WriteFacts
-mod RecordSizes
+mod MessageFacts
 mod DeadFacts

@@ -61,9 +61,10 @@ fn stage_messages<S: Shelf>(
 fn frame(alloc: Global, block: &Block, text: &mut Vec<u8>) -> Result<(), AllocError>
     ensures { OnOk result (text.new.items ≡ message_text (record_text block.now)) }
 {
-    let record = encode(alloc, block)?;
     text.clear();
-    text.extend_from_slice(&(record.len() as u32).to_be_bytes())?;
-    text.extend_from_slice(record.as_slice())?;
+    text.extend_from_slice(&[0; 4])?;
+    push_record(block, text)?;
+    let (length, record) = text.as_mut_slice().split_at_mut(4);
+    length.copy_from_slice(&(record.len() as u32).to_be_bytes());
     Ok(())
 }

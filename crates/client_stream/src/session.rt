@@ -20,8 +20,7 @@ use crate::know::know_id;
 use crate::lines::{print_first, print_idle_head, print_last, print_one};
 use crate::stage::At;
 use block_record::Kind;
-use chain_model::Place;
-use fork_db::Batch;
+use fork_db::{Batch, copy_place};
 use join_source::StepOut;
 use relay_look::{Look, LookFault, Position};
 use reply_text::{ErrorLine, print_end, print_error};
@@ -335,12 +334,4 @@ fn over(done: bool) -> SessionOver
     } else {
         SessionOver::Closing
     }
-}
-
-/// A copy of a place.
-fn copy_place(place: &Place) -> Result<Place, AllocError>
-    ensures { IfOk result (λ p. p ≡ place.now) }
-{
-    let place = place.clone()?;
-    Ok(place)
 }

@@ -265,7 +265,7 @@ fn path_lengths<C: LinkCount>(
 }
 
 /// A copy of a place.
-fn copy_place(place: &Place) -> Result<Place, AllocError>
+pub fn copy_place(place: &Place) -> Result<Place, AllocError>
     ensures { IfOk result (λ p. p ≡ place.now) }
 {
     let place = place.clone()?;

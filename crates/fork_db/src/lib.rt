@@ -9,7 +9,7 @@ mod heads;
 mod held;
 mod openings;
 
-pub use batches::Batch;
+pub use batches::{Batch, copy_place};
 pub use chunks::{StepAt, StepItem};
 pub use claims::{ChildFault, Linked};
 pub use db::{ForkDb, ForkFault, Verdict};

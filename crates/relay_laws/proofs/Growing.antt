@@ -12,7 +12,7 @@ use Rattle.chain_laws.proofs.public.Growth.{IsFound, find_passes, found_cases}
 use Rattle.block_record.specs.Slips.{same_slip}
 use Rattle.relay_model.specs.Orders.{position, link_time, Linked}
 use Rattle.relay_model.specs.Soundness.{IsDistinct}
-use Rattle.relay_laws.proofs.RunFacts.{IsStep}
+use Rattle.relay_laws.proofs.public.RunFacts.{IsStep}
 use Rattle.relay_laws.proofs.Times.{IsLinkedBy, link_down, link_up, root_time}
 use Rattle.relay_laws.proofs.Keys.{After}
 use Rattle.relay_laws.proofs.Drains.{Pairs}

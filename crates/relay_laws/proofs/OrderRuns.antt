@@ -9,7 +9,7 @@ use Rattle.chain_laws.proofs.public.Reach.{head_is_found}
 use Rattle.chain_laws.proofs.public.LineFacts.{parent_at}
 use Rattle.relay_model.specs.Orders.{position, link_time}
 use Rattle.relay_model.specs.Soundness.{IsDistinct}
-use Rattle.relay_laws.proofs.RunFacts.{last_of}
+use Rattle.relay_laws.proofs.public.RunFacts.{last_of}
 use Rattle.relay_laws.proofs.Times.{IsParent, link_down, above_root, IsAboveRoot}
 use Rattle.relay_laws.proofs.public.Scratch.{line_parent, alone_last}
 

@@ -21,7 +21,7 @@ use Rattle.relay_laws.proofs.Times.{link_down}
 use Rattle.relay_model.proofs.public.Intakes.{all_filter}
 use Rattle.relay_model.proofs.public.Sound.{lacks_parts}
 use Rattle.relay_model.specs.Orders.{position, link_time}
-use Rattle.relay_laws.proofs.RunFacts.{IsStep}
+use Rattle.relay_laws.proofs.public.RunFacts.{IsStep}
 use Rattle.relay_laws.proofs.Keys.{After, ByTime, ByNum, ByPlace}
 use Rattle.relay_laws.proofs.Drains.{Pairs, Above, pairs_filter}
 use Rattle.relay_laws.proofs.Growing.{key, Newer}

@@ -31,7 +31,7 @@ use Rattle.relay_model.proofs.public.Sound.{first_intake, starts, begins_taking,
 use Rattle.relay_model.proofs.public.Entries.{distinct_found}
 use Rattle.chain_laws.proofs.public.Tips.{on_one_path}
 use Rattle.relay_laws.proofs.Moves.{Moves, moves}
-use Rattle.relay_laws.proofs.RunFacts.{last_of, last_append, IsStep, IsRun, Where, run_step}
+use Rattle.relay_laws.proofs.public.RunFacts.{last_of, last_append, IsStep, IsRun, Where, run_step}
 use Rattle.relay_laws.proofs.public.RunSteps.{no_root, run_of, block_step, rest_one, once_distinct, empty_both}
 use Rattle.relay_laws.proofs.Drains.{Pairs, Later, Above, pairs_filter, IsDraining, Honest, drain}
 use Rattle.relay_laws.proofs.Growing.{link_grows, position_low, Newer}

@@ -7,10 +7,10 @@ use Rattle.chain_model.specs.Finality.{ClaimsAgree}
 use Rattle.chain_laws.proofs.public.Growth.{IsFound, claim_found}
 use Rattle.relay_model.specs.Orders.{once}
 use Rattle.relay_model.specs.Runs.{OneEach}
-use Rattle.relay_laws.proofs.RunFacts.{last_of}
+use Rattle.relay_laws.proofs.public.RunFacts.{last_of}
 use Rattle.relay_laws.proofs.public.RunSteps.{once_distinct}
-use Rattle.relay_laws.proofs.TwoHistories.{IsWithin, same_lines, same_claim}
-use Rattle.relay_laws.proofs.OrderFacts.{order_found, order_is_history, order_root}
+use Rattle.relay_laws.proofs.public.TwoHistories.{IsWithin, same_lines, same_claim}
+use Rattle.relay_laws.proofs.public.OrderFacts.{order_found, order_is_history, order_root}
 use Rattle.relay_laws.proofs.public.Scratch.{chain_linked, order_of, order_with}
 use Rattle.bundle_model.specs.Members.{Among}
 use Rattle.bundle_model.proofs.public.MemberFacts.{among_all, all_among}

@@ -5,19 +5,9 @@ use Rattle.relay_model.specs.Worlds.{World}
 use Rattle.relay_model.specs.Offers.{tip_num, judge, world_by, offered}
 use Rattle.relay_model.specs.Verdicts.{Verdict}
 use Rattle.relay_model.specs.Verdicts as verdict
+use Rattle.relay_model.proofs.public.Judged.{size_by}
 use Rattle.store_model.specs.Shown.{Shown}
 use Rattle.store_model.specs.Loads.{Loading, Round, taken, is_offered, offer_one, load_all, is_wait_full, first_full, round_all, loading_of, round_of}
-
-size_by : (w : World) (s : Slip) (v : Verdict) → (world_by w s v).size ≡ w.size
-size_by w s verdict.Closed = refl
-size_by w s verdict.Duplicate = refl
-size_by w s (verdict.Conflict c) = refl
-size_by w s verdict.Early = refl
-size_by w s verdict.Stale = refl
-size_by w s verdict.WaitFull = refl
-size_by w s verdict.Waiting = refl
-size_by w s (verdict.HistoryFull need) = refl
-size_by w s verdict.Admitted = refl
 
 pub offer_size : (w : World) (s : Slip) → (offered w s).world.size ≡ w.size
 offer_size w s = size_by w s (judge w s)

@@ -15,27 +15,14 @@ use Rattle.chain_laws.proofs.public.Growth.{IsFound, claim_found, tip_claimed, a
 use Rattle.chain_laws.proofs.public.LineFacts.{same_number}
 use Rattle.chain_laws.proofs.public.Meeting.{itself_on_path, greater_is_some}
 use Rattle.chain_laws.proofs.public.Roots.{has_tip}
-use Rattle.chain_laws.proofs.public.Tips.{tip_most, final_in_any_order}
+use Rattle.chain_laws.proofs.public.Tips.{claim_final, greatest_most, final_in_any_order}
 use Rattle.relay_model.specs.Offers.{num_of}
-use Rattle.relay_laws.proofs.TwoHistories.{IsWithin, same_lines, same_claim}
+use Rattle.relay_laws.proofs.public.TwoHistories.{IsWithin, same_lines, same_claim}
 use Rattle.bundle_model.specs.Members.{Among}
 use Rattle.bundle_model.proofs.public.MemberFacts.{among_all, among_filter, filter_among, all_among}
 use Rattle.store_model.specs.Laws.{IsSame}
 use Rattle.store_model.proofs.RootFacts.{no_found}
 use Rattle.bundle_model.proofs.public.StoredFacts.{among_found, found_is_among}
-
--- what is claimed stands under the tip
-claim_under_tip : (newest : List Slip) → IsHistory newest → ClaimsAgree newest → (t b c : Slip) → final_tip newest ≡ Some t → IsFound newest b → claim newest b ≡ Some c → has_id (ancestry newest t.id) c.id ≡ true
-claim_under_tip newest history agreed t b c is found claimed =
-    let x = tip_claimed newest history t is in
-    let ft = claim_found newest history x.by t x.claimed in
-    let fc = claim_found newest history b c claimed in
-    elim (or_cases _ _ (agreed b x.by c t found x.found claimed x.claimed)) [
-      | inl under ↦ under
-      | inr over ↦
-          let same : t ≡ c = same_number newest history t c ft fc over (tip_most newest t b c is found claimed) in
-          subst (λ (s : Slip). has_id (ancestry newest t.id) s.id ≡ true) same (itself_on_path newest t ft)
-    ]
 
 pub within_finals : (a b : List Slip) → IsWithin a b → ClaimsAgree b → IsSuffix (final_ancestry a) (final_ancestry b)
 within_finals a b w agreed = go (final_tip a) refl
@@ -56,7 +43,7 @@ within_finals a b w agreed = go (final_tip a) refl
         let fx = w.there x.by x.found in
         let fa = claim_found a w.history x.by t x.claimed in
         let fb = claim_found b w.whole x.by t ct in
-        let s = other t fa fb (final_tip b) refl (λ u is. claim_under_tip b w.whole agreed u x.by t is fx ct) in
+        let s = other t fa fb (final_tip b) refl (λ u is. claim_final b w.whole agreed u x.by t is fx ct) in
         subst (λ (l : List Slip). IsSuffix l (final_ancestry b)) (sym (ap (ancestry_of a) e)) s
 
 -- the greatest of a list
@@ -87,16 +74,6 @@ greater_most (Some u) x h e =
 greatest_none : (xs : List Slip) (x : Slip) → greatest xs ≡ None → Among xs x → ⊥
 greatest_none [] x e h = h
 greatest_none (y ∷ xs) x e h = greater_is_some (greatest xs) y e
-
-greatest_most : (xs : List Slip) (h : Slip) → greatest xs ≡ Some h → AllByRecursion (λ x. x.num ≤ h.num) xs
-greatest_most [] h e = tt
-greatest_most (x ∷ xs) h e =
-    let m = greater_most (greatest xs) x h e in
-    (m.0, rest (greatest xs) refl m.1 (λ t is. greatest_most xs t is))
-  where
-    rest : (o : Option Slip) → greatest xs ≡ o → ((t : Slip) → greatest xs ≡ Some t → t.num ≤ h.num) → ((t : Slip) → greatest xs ≡ Some t → AllByRecursion (λ y. y.num ≤ t.num) xs) → AllByRecursion (λ y. y.num ≤ h.num) xs
-    rest None is f ih = all_among (λ y. y.num ≤ h.num) xs (λ y k. absurd (greatest_none xs y is k))
-    rest (Some t) is f ih = all_weaker (λ y. y.num ≤ t.num) (λ y. y.num ≤ h.num) (λ y k. let le = f t is in omega (arith, k, le)) xs (ih t is)
 
 -- the greatest number of two lists with the same members
 nums_same : (xs ys : List Slip) → ((x : Slip) → Among xs x → Among ys x) → ((x : Slip) → Among ys x → Among xs x) → num_of (greatest xs) ≡ num_of (greatest ys)

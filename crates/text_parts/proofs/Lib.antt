@@ -1,1 +1,2 @@
 mod RoomFacts
+mod EscapeFacts

@@ -1,5 +1,5 @@
 -- The text of a part.
-use Rattle.std.specs.Prelude.{ℕ, ◌==◌, ◌||◌, nat_lt, if◌then◌else◌, List, [], ◌∷◌, ◌++◌, codes}
+use Rattle.std.specs.Prelude.{Bool, ℕ, ◌==◌, ◌||◌, nat_lt, if◌then◌else◌, List, [], ◌∷◌, ◌++◌, codes}
 use Rattle.std.specs.Fmt.{decimal}
 use Rattle.std.specs.List.{flat_map}
 use Rattle.base64.specs.GeneralPurpose.{encode_of}
@@ -14,6 +14,10 @@ escaped_byte b =
     if b == 34 || b == 92 then 92 ∷ b ∷ []
     else if nat_lt b 32 then codes "\\u00" ++ encode_lower (b ∷ [])
     else b ∷ []
+
+-- a byte that has an escape there
+abbrev pub is_apart : ℕ → Bool
+is_apart b = b == 34 || b == 92 || nat_lt b 32
 
 -- bytes as they stand between the quotes of a JSON text
 abbrev pub escaped : List ℕ → List ℕ

@@ -1,6 +1,8 @@
 //! The parts of a text.
 
 ghost use Rattle.std.specs.Prelude.{◌≡◌, ◌++◌, OnOk, OnErr};
+ghost use Rattle.base64.specs.Engines.{standard};
+ghost use Rattle.base64.specs.GeneralPurpose.{encode_of};
 ghost use Rattle.hex.specs.Hex.{encode_lower};
 ghost use Rattle.text_parts.specs.Parts.{part_text, parts_text};
 
@@ -52,9 +54,19 @@ pub fn push_part(part: Part<'_>, text: &mut Vec<u8>) -> Result<(), AllocError>
             text.extend_from_slice(digits.format(number).as_bytes())
         }
         Part::Escaped(bytes) => push_escaped(bytes, text),
-        Part::Base64(bytes) => push_base64(&STANDARD, bytes, text),
+        Part::Base64(bytes) => push_standard(bytes, text),
         Part::Hex(digest) => text.extend_from_slice(hex_of(digest).as_slice()),
     }
+}
+
+/// Appends the bytes in base64 of the standard alphabet, padded. It stands apart since the engine's
+/// tables are made anew in each call that names it.
+#[inline(never)]
+fn push_standard(bytes: &[u8], text: &mut Vec<u8>) -> Result<(), AllocError>
+    ensures ok { OnOk result (text.new.items ≡ text.old.items ++ encode_of standard bytes.now) }
+    ensures err { OnErr result (text.new.items ≡ text.old.items) }
+{
+    push_base64(&STANDARD, bytes, text)
 }
 
 /// A digest in lower-case hexadecimal digits.

@@ -47,7 +47,8 @@ all_below : (t u : Slip) (xs : List Slip) → u.num ≤ t.num → AllByRecursion
 all_below t u [] le all = tt
 all_below t u (x ∷ xs) le all = (omega (arith, le, all.0), all_below t u xs le all.1)
 
-greatest_most : (xs : List Slip) (t : Slip) → greatest xs ≡ Some t → AllByRecursion (λ x. x.num ≤ t.num) xs
+-- no block of a list has a greater number than its greatest
+pub greatest_most : (xs : List Slip) (t : Slip) → greatest xs ≡ Some t → AllByRecursion (λ x. x.num ≤ t.num) xs
 greatest_most [] t e = tt
 greatest_most (x ∷ xs) t e = go (λ u is. greatest_most xs u is) (greatest xs) refl e
   where
@@ -77,7 +78,7 @@ tip_most newest t b c is found claimed =
     find_passes (λ x. (y : Slip) → claim newest x ≡ Some y → y.num ≤ t.num) _ newest b (claims_most (claim newest) t.num newest (greatest_most (claims newest) t is)) found c claimed
 
 -- each claim is on the path of the tip
-claim_final : (newest : List Slip) → IsHistory newest → ClaimsAgree newest → (t b c : Slip) → final_tip newest ≡ Some t → IsFound newest b → claim newest b ≡ Some c → has_id (ancestry newest t.id) c.id ≡ true
+pub claim_final : (newest : List Slip) → IsHistory newest → ClaimsAgree newest → (t b c : Slip) → final_tip newest ≡ Some t → IsFound newest b → claim newest b ≡ Some c → has_id (ancestry newest t.id) c.id ≡ true
 claim_final newest history agreed t b c is found claimed =
     let tip_by = tip_claimed newest history t is in
     let ft = claim_found newest history tip_by.by t tip_by.claimed in

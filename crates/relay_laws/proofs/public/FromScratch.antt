@@ -16,10 +16,10 @@ use Rattle.relay_model.specs.Soundness.{IsDistinct}
 use Rattle.relay_laws.specs.Laws.{MatchesTip}
 use Rattle.relay_model.proofs.public.Intakes.{all_filter, distinct_filter}
 use Rattle.relay_laws.proofs.Moves.{filter_found, found_filter}
-use Rattle.relay_laws.proofs.RunFacts.{last_of, IsRun, last_some}
+use Rattle.relay_laws.proofs.public.RunFacts.{last_of, IsRun, last_some}
 use Rattle.relay_laws.proofs.public.RunSteps.{run_of, run_first, once_distinct}
 use Rattle.relay_laws.proofs.Keys.{After, ByTime, ByNum, ByPlace, is_after, Falls, slips, sorted_falls}
-use Rattle.relay_laws.proofs.OrderFacts.{IsPlaced, keyed, order_placed, order_distinct}
+use Rattle.relay_laws.proofs.public.OrderFacts.{IsPlaced, keyed, order_placed, order_distinct}
 use Rattle.relay_laws.proofs.Drains.{Pairs, pairs_filter}
 use Rattle.relay_laws.proofs.Growing.{key, Older, same_sorted}
 use Rattle.relay_laws.proofs.public.Scratch.{IsBegun, scratch_linked, order_of, tip_from_scratch}

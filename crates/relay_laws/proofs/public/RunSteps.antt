@@ -21,7 +21,7 @@ use Rattle.relay_model.specs.Soundness.{IsBlock}
 use Rattle.relay_model.specs.Soundness.{IsDistinct}
 use Rattle.relay_model.proofs.public.Intakes.{find_of}
 use Rattle.relay_model.proofs.public.Sound.{empty_sound, keeps_by}
-use Rattle.relay_laws.proofs.RunFacts.{IsStep, IsRun, run_step}
+use Rattle.relay_laws.proofs.public.RunFacts.{IsStep, IsRun, run_step}
 use Rattle.relay_model.proofs.public.Judged.{first_by}
 
 once_has : (xs : List Slip) (s : Slip) → IsFound (once xs) s → list_any (same_slip s) xs ≡ true

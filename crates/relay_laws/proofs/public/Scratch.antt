@@ -24,11 +24,11 @@ use Rattle.relay_laws.specs.Laws.{MatchesTip, TipFromScratch}
 use Rattle.relay_model.specs.Runs.{empty_world, run, taken, received}
 use Rattle.relay_laws.proofs.public.RunSteps.{run_of, run_first, once_distinct}
 use Rattle.chain_model.specs.Steps.{holds_tip}
-use Rattle.relay_laws.proofs.RunFacts.{last_of, Where, IsRun, last_some}
+use Rattle.relay_laws.proofs.public.RunFacts.{last_of, Where, IsRun, last_some}
 use Rattle.relay_laws.proofs.Times.{IsParent, root_time, link_up, above_root, IsAboveRoot}
 use Rattle.relay_laws.proofs.Keys.{slips}
-use Rattle.relay_laws.proofs.OrderFacts.{IsPlaced, key_of, keyed, order_found, order_placed, order_is_history, order_root}
-use Rattle.relay_laws.proofs.TwoHistories.{IsWithin, same_lines, same_tip}
+use Rattle.relay_laws.proofs.public.OrderFacts.{IsPlaced, key_of, keyed, order_found, order_placed, order_is_history, order_root}
+use Rattle.relay_laws.proofs.public.TwoHistories.{IsWithin, same_lines, same_tip}
 
 last_line : (xs : List Slip) (r : Slip) → root_line xs ≡ r ∷ [] → last_of xs ≡ Some r
 last_line [] r e = absurd (cc)

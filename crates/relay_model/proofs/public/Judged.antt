@@ -1,12 +1,13 @@
 -- What the rule that decides an offer tells of the block.
 use Rattle.std.proofs.Common.{arith, ◌≡◌, ◌≤◌, ◌<◌, ◌⊎◌, inl, inr, leb, List, [], ◌∷◌, ◌++◌, Option, Some, None, refl, ltb}
 use Rattle.std.proofs.lemmas.Bool.{cases_Bool, leb-false, ltb-false}
+use Rattle.block_record.specs.declared.blocks.Kind.{Kind}
 use Rattle.block_record.specs.declared.blocks.Slip.{Slip}
 use Rattle.chain_model.specs.Ancestry.{find_id}
 use Rattle.chain_model.specs.Finality.{root_num}
 use Rattle.relay_model.specs.declared.answers.Conflict.{Conflict as Clash}
 use Rattle.relay_model.specs.Worlds.{World}
-use Rattle.relay_model.specs.Offers.{tip_num, clash, judge_limit, judge_clash, judge_parent, judge_linked, judge_held, judge, world_by}
+use Rattle.relay_model.specs.Offers.{tip_num, clash, judge_limit, judge_clash, judge_parent, judge_linked, judge_held, judge, intake, admitted, world_by}
 use Rattle.relay_model.specs.Verdicts.{Verdict}
 use Rattle.relay_model.specs.Verdicts as verdict
 
@@ -106,25 +107,27 @@ judged_takes w s e =
       | inr open' ↦ held_takes w s (find_id (w.waiting ++ w.history) s.id) refl (rw open' at e)
     ]
 
--- no offer moves the first number that a world takes, and none closes it
+-- what a world tells that neither its blocks nor its conflicts move, no offer moves: the first number that it takes, its size of bundles, whether it is closed, what is stored
+pub stays_by : {A : Type 0} (f : World → A) (w : World) (s : Slip) (v : Verdict)
+    → ((kind : Option Kind) (history waiting : List Slip) (conflicts : List Clash) → f (record w { kind = kind; history = history; waiting = waiting; conflicts = conflicts }) ≡ f w) → f (world_by w s v) ≡ f w
+stays_by f w s verdict.Closed same = refl
+stays_by f w s verdict.Duplicate same = refl
+stays_by f w s (verdict.Conflict c) same = same w.kind w.history w.waiting (c ∷ w.conflicts)
+stays_by f w s verdict.Early same = refl
+stays_by f w s verdict.Stale same = refl
+stays_by f w s verdict.WaitFull same = refl
+stays_by f w s verdict.Waiting same = same w.kind w.history (s ∷ w.waiting) w.conflicts
+stays_by f w s (verdict.HistoryFull need) same = refl
+stays_by f w s verdict.Admitted same = same (admitted w (intake w s)).kind (admitted w (intake w s)).history (admitted w (intake w s)).waiting (admitted w (intake w s)).conflicts
+
 pub first_by : (w : World) (s : Slip) (v : Verdict) → (world_by w s v).first ≡ w.first
-first_by w s verdict.Closed = refl
-first_by w s verdict.Duplicate = refl
-first_by w s (verdict.Conflict c) = refl
-first_by w s verdict.Early = refl
-first_by w s verdict.Stale = refl
-first_by w s verdict.WaitFull = refl
-first_by w s verdict.Waiting = refl
-first_by w s (verdict.HistoryFull need) = refl
-first_by w s verdict.Admitted = refl
+first_by w s v = stays_by (λ x. x.first) w s v (λ k h ws cs. refl)
 
 pub closed_by : (w : World) (s : Slip) (v : Verdict) → (world_by w s v).closed ≡ w.closed
-closed_by w s verdict.Closed = refl
-closed_by w s verdict.Duplicate = refl
-closed_by w s (verdict.Conflict c) = refl
-closed_by w s verdict.Early = refl
-closed_by w s verdict.Stale = refl
-closed_by w s verdict.WaitFull = refl
-closed_by w s verdict.Waiting = refl
-closed_by w s (verdict.HistoryFull need) = refl
-closed_by w s verdict.Admitted = refl
+closed_by w s v = stays_by (λ x. x.closed) w s v (λ k h ws cs. refl)
+
+pub size_by : (w : World) (s : Slip) (v : Verdict) → (world_by w s v).size ≡ w.size
+size_by w s v = stays_by (λ x. x.size) w s v (λ k h ws cs. refl)
+
+pub stored_by : (w : World) (s : Slip) (v : Verdict) → (world_by w s v).stored ≡ w.stored
+stored_by w s v = stays_by (λ x. x.stored) w s v (λ k h ws cs. refl)

@@ -23,7 +23,8 @@ use Rattle.store_model.specs.Shown.{Shown, IsPassed}
 use Rattle.store_model.specs.Kept.{IsKeeping, IsStoredFinal, IsStoredFork}
 use Rattle.store_model.proofs.PassedFacts.{passed_later, at_tip}
 use Rattle.store_model.proofs.public.ReloadFacts.{prefix_both}
-use Rattle.store_model.proofs.public.StepFacts.{IsLonger, stored_stay, finals_longer, stored_by}
+use Rattle.relay_model.proofs.public.Judged.{stored_by}
+use Rattle.store_model.proofs.public.StepFacts.{IsLonger, stored_stay, finals_longer}
 use Rattle.store_model.proofs.SizeFacts.{offer_size}
 use Rattle.bundle_model.proofs.public.StoredFacts.{found_is_among, among_any, final_found, one_of_id, stored_of}
 use Rattle.store_model.specs.StoredLaws.{StoredAreSettled, SettledBy, OfferKeepsFront, OfferKeepsOwn}

@@ -16,7 +16,7 @@ use Rattle.relay_model.specs.Orders.{root_of}
 use Rattle.relay_model.specs.Runs.{OneEach}
 use Rattle.relay_model.specs.Soundness.{IsSound, IsBlock}
 use Rattle.relay_model.proofs.public.Intakes.{find_of}
-use Rattle.relay_laws.proofs.TwoHistories.{IsWithin}
+use Rattle.relay_laws.proofs.public.TwoHistories.{IsWithin}
 use Rattle.bundle_model.specs.Laws.{IsFrontStored}
 use Rattle.bundle_model.specs.Members.{Among}
 use Rattle.bundle_model.specs.Bundles.{Bundle, bundles_of, blocks_of, IsDue}

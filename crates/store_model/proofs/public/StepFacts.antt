@@ -21,6 +21,7 @@ use Rattle.relay_model.specs.Verdicts.{Verdict}
 use Rattle.relay_model.specs.Verdicts as verdict
 use Rattle.relay_model.specs.Soundness.{IsSound}
 use Rattle.relay_model.proofs.public.Intakes.{all_filter}
+use Rattle.relay_model.proofs.public.Judged.{stored_by}
 use Rattle.relay_model.proofs.public.Sound.{offer_keeps, offer_grows, lacks_parts}
 use Rattle.bundle_model.specs.Members.{Among}
 use Rattle.bundle_model.specs.Bundles.{Bundle, bundles_of, blocks_of, finals_up, base_of, is_within, IsDue}
@@ -114,18 +115,6 @@ waits_by P w s p e (verdict.HistoryFull need) = e
 waits_by P w s p e verdict.Admitted =
     all_filter P (λ x. ltb (tip_num (intake w s).history) x.num) (intake w s).waiting
     (take_waits P (length w.waiting) (record { history = s ∷ w.history; waiting = w.waiting; dropped = [] }) e)
-
--- no offer moves a stored place
-pub stored_by : (w : World) (s : Slip) (v : Verdict) → (world_by w s v).stored ≡ w.stored
-stored_by w s verdict.Closed = refl
-stored_by w s verdict.Duplicate = refl
-stored_by w s (verdict.Conflict c) = refl
-stored_by w s verdict.Early = refl
-stored_by w s verdict.Stale = refl
-stored_by w s verdict.WaitFull = refl
-stored_by w s verdict.Waiting = refl
-stored_by w s (verdict.HistoryFull need) = refl
-stored_by w s verdict.Admitted = refl
 
 -- places that stand in a history stand in a longer one
 places_stay : (places : List ℕ) (more xs : List Slip) → AllByRecursion (λ at. at < length xs) places → at_places places (more ++ xs) ≡ at_places places xs

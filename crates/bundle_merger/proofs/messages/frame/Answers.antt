@@ -1,5 +1,5 @@
 use Rattle.std.proofs.Common.{arith, ap, length}
-use Rattle.bundle_merger.proofs.RecordSizes.{record_small}
+use Rattle.block_record.proofs.public.RecordSizes.{record_small}
 use Rattle.bundle_merger.proofs.messages.frame.Goals as goal
 
 pub overflow_cast-len : goal.overflow_cast-len

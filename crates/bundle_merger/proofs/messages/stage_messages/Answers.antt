@@ -1,5 +1,5 @@
 use Rattle.std.proofs.Common.{arith, ◌∙◌}
-use Rattle.bundle_merger.proofs.RecordSizes.{staged_more}
+use Rattle.bundle_merger.proofs.MessageFacts.{staged_more}
 use Rattle.bundle_merger.proofs.messages.stage_messages.Goals as goal
 
 pub loop-block-preserved : goal.loop-block-preserved

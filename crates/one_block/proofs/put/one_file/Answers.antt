@@ -1,6 +1,7 @@
 use Rattle.std.proofs.Common.{◌∙◌, ◌≤◌, List, ℕ, length, sym, subst}
 use Rattle.block_record.specs.Records.{record_text}
-use Rattle.one_block.proofs.PutFacts.{one_message, record_small}
+use Rattle.block_record.proofs.public.RecordSizes.{record_small}
+use Rattle.one_block.proofs.PutFacts.{one_message}
 use Rattle.one_block.proofs.put.one_file.Goals as goal
 
 pub message-requires : goal.message-requires
