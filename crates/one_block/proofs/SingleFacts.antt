@@ -1,9 +1,9 @@
 -- What the first message of a file of one block tells of the file.
-use Rattle.std.proofs.Common.{◌≡◌, ◌+◌, ◌||◌, inl, inr, ℕ, Bool, nat_lt, List, [], ◌∷◌, length, Option, Some, None, Ok, refl, sym, ap, subst, ◌∙◌}
+use Rattle.std.proofs.Common.{◌≡◌, ◌+◌, ◌||◌, inl, inr, ℕ, Bool, nat_lt, List, [], ◌∷◌, length, Option, Some, None, refl, sym, ap, subst, ◌∙◌}
 use Rattle.std.specs.Prelude.{slice_get}
 use Rattle.std.specs.Option.{is_some, option_map, unwrap_or}
 use Rattle.std.proofs.lemmas.Bool.{or_parts}
-use Rattle.block_record.specs.declared.blocks.Slip.{Slip}
+use Rattle.block_record.specs.declared.blocks.Block.{Block}
 use Rattle.dbin_file.specs.Contents.{contents, told}
 use Rattle.one_block.specs.Containers.{container_fault, fault_place, record_place, HasContents}
 use Rattle.one_block.specs.declared.containers.FileContents.{FileContents}
@@ -13,8 +13,7 @@ use Rattle.one_block.specs.declared.file_faults.FileFault.{FileFault}
 use Rattle.one_block.specs.declared.file_faults.FileFault.TheVariants.{Bad, OtherType, Mem}
 use Rattle.one_block.specs.declared.forms.Form.{Form}
 use Rattle.one_block.specs.Heads.{HasHead, IsKept, AreRecordsOf}
-use Rattle.one_block.specs.Singles.{IsBadAfterHead, FormedRefused, FormedAnswers}
-use Rattle.one_block.specs.Forms.{own_name}
+use Rattle.one_block.specs.Singles.{IsBadAfterHead, IsSingleOf, FormedRefused}
 use Rattle.one_block.specs.SingleSteps.{HeadRefused, IsOnly, OnlyRefused}
 use Rattle.one_block.proofs.public.HeadFacts.{has_head, bad_head, other_type}
 
@@ -40,22 +39,18 @@ module _ (form : Form) (name text : List ℕ) (kept : Option (List ℕ)) (file :
       abbrev follows : Bool
       follows = nat_lt 0 (length more) || is_some (container_fault text)
 
-      only_ok : (s : Slip) → IsOnly form name m follows s → FormedAnswers form name text kept (Ok (record { block_type = block_type; slip = s }))
-      only_ok s only =
+      only_ok : (b : Block) → IsOnly form name m follows b → IsSingleOf form name text kept block_type b
+      only_ok b only =
           let ends = or_parts (nat_lt 0 (length more)) (is_some (container_fault text)) only.ends in
           let alone : (contents text).messages ≡ m ∷ [] = messages ∙ ap (λ (l : List (List ℕ)). m ∷ l) (empty_of more ends.0) in
           record {
-            block = only.block;
-            single = record {
-              holds = record {
-                typed = head.typed;
-                records = record { records = subst (λ (l : List (List ℕ)). AreRecordsOf l (only.block ∷ [])) (sym alone) (only.record_is, tt) };
-                whole = none_of (container_fault text) ends.1;
-              };
-              same = same;
-              named = only.named ∙ ap (own_name form) only.slip_is;
+            holds = record {
+              typed = head.typed;
+              records = record { records = subst (λ (l : List (List ℕ)). AreRecordsOf l (b ∷ [])) (sym alone) (only.record_is, tt) };
+              whole = none_of (container_fault text) ends.1;
             };
-            slip_is = only.slip_is;
+            same = same;
+            named = only.named;
           }
 
       only_refused : (e : FileFault) → OnlyRefused form name m (record_place text) follows e → FormedRefused form name text kept e
@@ -94,10 +89,10 @@ module _ (form : Form) (name text : List ℕ) (kept : Option (List ℕ)) (file :
 
     -- what is answered of the first message is what is answered of the file
     module _ (first : List ℕ) (place : ℕ) (goes_on : Bool) (got : slice_get file.messages.items 0 ≡ Some first) (place_is : place ≡ 11 + length block_type) (is : goes_on ≡ (nat_lt 1 (length file.messages.items) || is_some file.fault)) where
-      pub formed_ok : (s : Slip) → IsOnly form name first goes_on s → FormedAnswers form name text kept (Ok (record { block_type = block_type; slip = s }))
-      formed_ok s only =
+      pub formed_ok : (b : Block) → IsOnly form name first goes_on b → IsSingleOf form name text kept block_type b
+      formed_ok b only =
           let f = first_from first place goes_on got place_is is in
-          only_ok first f.more f.messages s (subst (λ (t : Bool). IsOnly form name first t s) f.follows_is only)
+          only_ok first f.more f.messages b (subst (λ (t : Bool). IsOnly form name first t b) f.follows_is only)
 
       pub formed_refused : (e : FileFault) → OnlyRefused form name first place goes_on e → FormedRefused form name text kept e
       formed_refused e refused =

@@ -1,7 +1,6 @@
 -- The steps by which a file is read.
 use Rattle.std.specs.Prelude.{ℕ, ◌≡◌, ◌+◌, ◌⊎◌, Bool, true, false, List, length, Option, None, Some, ⊤, Result, Ok, Err}
 use Rattle.block_record.specs.declared.blocks.Block.{Block}
-use Rattle.block_record.specs.declared.blocks.Slip.{Slip}
 use Rattle.block_record.specs.Slips.{slip}
 use Rattle.dbin_file.specs.Contents.{told}
 use Rattle.one_block.specs.declared.file_faults.FileFault.{FileFault}
@@ -38,12 +37,10 @@ abbrev pub Decodes : List ℕ → ℕ → Result Block FileFault → Type 0
 Decodes bytes place (Ok b) = IsRecordOf bytes b
 Decodes bytes place (Err fault) = DecodeRefused bytes place fault
 
--- the only record of a file holds a block of this slip and this name
-pub record IsOnly (form : Form) (name bytes : List ℕ) (goes_on : Bool) (s : Slip) : Type 0 where
-  pub block : Block
-  pub slip_is : s ≡ slip block
+-- the only record of a file holds this block, which has this name
+pub record IsOnly (form : Form) (name bytes : List ℕ) (goes_on : Bool) (block : Block) : Type 0 where
   pub record_is : IsRecordOf bytes block
-  pub named : name ≡ own_name form s
+  pub named : name ≡ own_name form (slip block)
   pub ends : goes_on ≡ false
 
 -- the record is of a block of this name, and something follows it
@@ -60,6 +57,6 @@ OnlyRefused form name bytes place goes_on (OtherType held offered) = ⊥
 OnlyRefused form name bytes place goes_on Mem = ⊤
 
 -- what is answered of a record at this place, after which something follows or not
-abbrev pub OnlyAnswers : Form → List ℕ → List ℕ → ℕ → Bool → Result Slip FileFault → Type 0
-OnlyAnswers form name bytes place goes_on (Ok s) = IsOnly form name bytes goes_on s
+abbrev pub OnlyAnswers : Form → List ℕ → List ℕ → ℕ → Bool → Result Block FileFault → Type 0
+OnlyAnswers form name bytes place goes_on (Ok block) = IsOnly form name bytes goes_on block
 OnlyAnswers form name bytes place goes_on (Err fault) = OnlyRefused form name bytes place goes_on fault

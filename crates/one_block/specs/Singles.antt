@@ -60,3 +60,8 @@ pub record IsSingleRead (form : Form) (name text : List ℕ) (kept : Option (Lis
 abbrev pub FormedAnswers : Form → List ℕ → List ℕ → Option (List ℕ) → Result SingleRead FileFault → Type 0
 FormedAnswers form name text kept (Ok read) = IsSingleRead form name text kept read
 FormedAnswers form name text kept (Err fault) = FormedRefused form name text kept fault
+
+-- the same with the block itself
+abbrev pub BlockAnswers : Form → List ℕ → List ℕ → Option (List ℕ) → Result (List ℕ × Block) FileFault → Type 0
+BlockAnswers form name text kept (Ok read) = IsSingleOf form name text kept read.0 read.1
+BlockAnswers form name text kept (Err fault) = FormedRefused form name text kept fault

@@ -31,4 +31,4 @@ pub use names::{NameParts, name_of};
 pub use parse::parse_name;
 pub use put::put_block;
 pub use read::read_filled;
-pub use singles::{SingleRead, read_single};
+pub use singles::{SingleRead, read_block, read_single};

@@ -2,14 +2,14 @@
 
 ghost use Rattle.std.specs.Prelude.{◌≡◌, IfOk, IsTrue, ◌↔◌};
 ghost use Rattle.one_block.specs.Forms.{own_name as own_name_of};
-ghost use Rattle.one_block.specs.Singles.{FormedAnswers};
+ghost use Rattle.one_block.specs.Singles.{BlockAnswers, FormedAnswers};
 ghost use Rattle.one_block.specs.SingleSteps.{OnlyAnswers};
 
 use crate::containers::{FileContents, end_place, goes_on, read_contents};
 use crate::file_faults::FileFault;
 use crate::forms::{Form, own_name};
 use crate::heads::{decode_at, head_type};
-use block_record::{Bytes, Slip, TypeName, into_slip};
+use block_record::{Block, Bytes, Slip, TypeName, into_slip, slip_of};
 use outer_world::FileName;
 use std::alloc::{AllocError, Global};
 
@@ -33,6 +33,23 @@ pub fn read_single(
 ) -> Result<SingleRead, FileFault>
     ensures { FormedAnswers form.now name.now text.now kept.now result }
 {
+    let (block_type, block) = read_block(alloc, form, name, text, kept)?;
+    Ok(SingleRead {
+        block_type,
+        slip: into_slip(block),
+    })
+}
+
+/// The same with the block itself.
+pub fn read_block(
+    alloc: Global,
+    form: &Form,
+    name: &FileName,
+    text: &[u8],
+    kept: &Option<TypeName>,
+) -> Result<(TypeName, Block), FileFault>
+    ensures { BlockAnswers form.now name.now text.now kept.now result }
+{
     let file = read_contents(alloc, text)?;
     let end = end_place(file.fault, text.len());
     let goes_on = goes_on(&file);
@@ -45,27 +62,27 @@ pub fn read_single(
     let place = 11 + block_type.as_bytes().len() as u64;
     match messages.first() {
         Some(first) => {
-            let slip = only_slip(alloc, form, name, first, place, goes_on)?;
-            Ok(SingleRead { block_type, slip })
+            let block = only_block(alloc, form, name, first, place, goes_on)?;
+            Ok((block_type, block))
         }
         None => Err(FileFault::Bad { at: end }),
     }
 }
 
-/// The slip of the block whose record stands at this place, where the name is the block's own and
-/// nothing follows.
-fn only_slip(
+/// The block whose record stands at this place, where the name is the block's own and nothing
+/// follows.
+fn only_block(
     alloc: Global,
     form: &Form,
     name: &FileName,
     bytes: &Bytes,
     place: u64,
     goes_on: bool,
-) -> Result<Slip, FileFault>
+) -> Result<Block, FileFault>
     ensures { OnlyAnswers form.now name.now bytes.now place goes_on result }
 {
     let block = decode_at(alloc, bytes.as_bytes(), place)?;
-    let slip = into_slip(block);
+    let slip = slip_of(alloc, &block)?;
     if !fits(alloc, form, name, &slip)? {
         return Err(FileFault::Bad { at: 0 });
     }
@@ -74,7 +91,7 @@ fn only_slip(
             at: place.saturating_add(bytes.as_bytes().len() as u64),
         });
     }
-    Ok(slip)
+    Ok(block)
 }
 
 /// Whether the name is the block's own in this form.
