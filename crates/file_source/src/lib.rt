@@ -6,4 +6,5 @@ mod search;
 mod source;
 
 pub use places::fetch;
+pub use search::next_block;
 pub use source::BlockSource;

@@ -11,6 +11,6 @@ mod singles;
 
 pub use bundles::{BundleRead, check_bundle};
 pub use check::{Report, check_shelf};
-pub use faults::{LoadFault, ReadFault};
+pub use faults::{LoadFault, ReadFault, with_name};
 pub use laws::good_files_are_taken;
 pub use singles::check_single;
