@@ -1,1 +1,1 @@
-mod MadeFacts
+pub mod public

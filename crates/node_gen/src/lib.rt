@@ -4,4 +4,4 @@
 mod generator;
 mod lines;
 
-pub use generator::{Generator, generate};
+pub use generator::{BLOCKS_MAX, Generator, generate, push_opening};

@@ -1,6 +1,6 @@
 use Rattle.std.proofs.Common.{arith, ◌≡◌, ◌++◌, ap, ◌∙◌, append_assoc}
 use Rattle.node_gen.specs.Generated.{lines_up_to, opening_line}
-use Rattle.node_gen.proofs.MadeFacts.{none_made, one_more}
+use Rattle.node_gen.proofs.public.MadeFacts.{none_made, one_more}
 use Rattle.node_gen.proofs.generator.push_all.Goals as goal
 
 pub loop-generator-init : goal.loop-generator-init

@@ -1,5 +1,5 @@
 use Rattle.std.proofs.Common.{◌-◌}
-use Rattle.node_gen.proofs.MadeFacts.{IsMade}
+use Rattle.node_gen.proofs.public.MadeFacts.{IsMade}
 use Rattle.node_gen.proofs.generator.push_all.Given as goal
 
 abbrev pub invariant-loop-generator : goal.invariant-loop-generator

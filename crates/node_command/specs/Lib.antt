@@ -1,0 +1,3 @@
+pub mod NodeWords
+pub mod NodeRuns
+pub mod Growth

@@ -1,0 +1,2 @@
+-- The lemmas that other crates may cite.
+pub mod MadeFacts
