@@ -4,3 +4,4 @@ pub mod AdmissionFacts
 pub mod HeldFacts
 mod StoredFacts
 mod ResizeFacts
+mod HoldsFacts

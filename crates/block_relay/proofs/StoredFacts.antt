@@ -426,3 +426,11 @@ gone_none {X} f (Some x) = refl
 pub other_way : (a b : Bool) → a ≡ not b → b ≡ not a
 other_way a true e = ap not (sym e)
 other_way a false e = ap not (sym e)
+
+-- what is told after a block came to be stored
+pub stored_told : (old new : Told) (s : Slip) → new.entries ≡ entry_at old.entries (place_in (history_of old.entries) s) → new.conflicts ≡ old.conflicts
+    → world_told new ≡ record (world_told old) { stored = stored_at (world_told old).stored (place_in (world_told old).history s) }
+stored_told old new s entries conflicts =
+    ap (λ (es : List Entry). world_told (told es new.conflicts)) entries
+    ∙ ap (λ (w : World). record w { conflicts = new.conflicts }) (entry_world old.entries (place_in (history_of old.entries) s))
+    ∙ ap (λ (cs : List Clash). record (world_of old.entries) { stored = stored_at (stored_of old.entries) (place_in (history_of old.entries) s); conflicts = cs }) conflicts

@@ -3,19 +3,23 @@
 ghost use Rattle.std.specs.Prelude.{◌≡◌, [], map, true, ℕ, IfOk, IfSome, IsTrue, None, Some};
 ghost use Rattle.std.specs.List.{slice_get};
 ghost use Rattle.std.specs.Option.{option_map};
+ghost use Rattle.block_record.specs.SlipRefs.{slip_seen};
 ghost use Rattle.block_record.specs.Slips.{slip as slip_of_block};
 ghost use Rattle.bundle_model.specs.Bundles.{is_size};
 ghost use Rattle.bundle_model.specs.Plans.{next_plan};
 ghost use Rattle.bundle_model.specs.Retained.{retained as retained_in, stored_finals as stored_finals_in};
-ghost use Rattle.bundle_model.specs.Shedding.{is_reached as is_reached_in, may_sweep as may_sweep_in, place_in, shed as shed_in};
+ghost use Rattle.bundle_model.specs.Shedding.{is_reached as is_reached_in, may_sweep as may_sweep_in, place_in, shed as shed_in, stored_at};
 ghost use Rattle.chain_model.specs.Finality.{final_tip};
 ghost use Rattle.relay_model.specs.Chronicles.{history_of};
+ghost use Rattle.relay_model.specs.Soundness.{IsBlock};
 ghost use Rattle.stored_blocks.specs.BundlePlans.{IsHeldAt, plan_seen};
 ghost use Rattle.stored_blocks.specs.Stored.{is_gone};
 ghost use Rattle.block_relay.specs.Chronicle.{entry_at, resized, shed_entries, stored_entries, world_told};
+ghost use Rattle.block_relay.specs.Held.{holds_block};
 
 use crate::marks::Mark;
 use crate::relay::Relay;
+use block_intake::Judged;
 use block_record::{Block, Id, SlipRef};
 use fork_db::ForkDb;
 use std::alloc::AllocError;
@@ -54,17 +58,31 @@ impl Relay {
         ensures conflicts { self.new.conflicts ≡ self.old.conflicts }
     {
         for block in blocks {
-            self.store(block);
+            self.store_held(SlipRef::of_block(block));
         }
     }
 
-    /// Stores a block.
-    fn store(&mut self, block: &Block)
+    /// Counts a block as stored, where it is in the history and is not yet: its payload is given up. It
+    /// takes no memory.
+    pub fn store(&mut self, slip: SlipRef)
         ensures entries { self.new.entries ≡ entry_at self.old.entries
-            (place_in (history_of self.old.entries) (slip_of_block block.now)) }
+            (place_in (history_of self.old.entries) (slip_seen slip.entry)) }
+        ensures world { world_told self.new ≡ record (world_told self.old) {
+          stored = stored_at (world_told self.old).stored
+              (place_in (world_told self.old).history (slip_seen slip.entry));
+        } }
         ensures conflicts { self.new.conflicts ≡ self.old.conflicts }
     {
-        let Some(at) = place_held(self.intake.history(), block) else {
+        self.store_held(slip);
+    }
+
+    /// Gives the payload of a block up, where it is in the history and its payload is held.
+    fn store_held(&mut self, slip: SlipRef)
+        ensures entries { self.new.entries ≡ entry_at self.old.entries
+            (place_in (history_of self.old.entries) (slip_seen slip.entry)) }
+        ensures conflicts { self.new.conflicts ≡ self.old.conflicts }
+    {
+        let Some(at) = place_held(self.intake.history(), slip) else {
             return;
         };
         self.intake.release(at);
@@ -82,6 +100,22 @@ impl Relay {
         match db.find(id) {
             Some(at) => db.held(at).is_none(),
             None => !self.intake.waits(id) && is_reached(db, num),
+        }
+    }
+
+    /// Whether the relay holds a block: it is in the history, or waits.
+    pub fn holds(&self, slip: SlipRef) -> bool
+        requires { IsBlock (slip_seen slip) }
+        ensures { result ≡ holds_block (world_told self.now) (slip_seen slip.entry) }
+    {
+        match self.intake.judge(slip) {
+            Judged::Duplicate => true,
+            Judged::Conflict(_, _)
+            | Judged::Early
+            | Judged::Stale
+            | Judged::WaitFull
+            | Judged::Waiting
+            | Judged::Links { .. } => false,
         }
     }
 
@@ -112,20 +146,20 @@ impl Relay {
 }
 
 /// The place of a block, where it is in the history and its payload is held.
-fn place_held(db: &ForkDb, block: &Block) -> Option<usize>
+fn place_held(db: &ForkDb, slip: SlipRef) -> Option<usize>
     ensures some { IfSome result
-        (λ at. place_in db.now.history (slip_of_block block.now) ≡ Some at) }
+        (λ at. place_in db.now.history (slip_seen slip.entry) ≡ Some at) }
     ensures held { IfSome result (IsHeldAt db.now) }
     ensures none { (at : ℕ) → result ≡ None
-        → place_in db.now.history (slip_of_block block.now) ≡ Some at
+        → place_in db.now.history (slip_seen slip.entry) ≡ Some at
         → is_gone (slice_get db.now.held at) ≡ true }
 {
     // The history is one.
     let _ = db.len();
-    let Some(at) = db.find(&block.id) else {
+    let Some(at) = db.find(slip.id) else {
         return None;
     };
-    if !SlipRef::of_block(block).is_same(db.slip(at)) {
+    if !slip.is_same(db.slip(at)) {
         return None;
     }
     if db.held(at).is_some() {

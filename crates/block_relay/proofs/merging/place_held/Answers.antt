@@ -1,9 +1,7 @@
 use Rattle.std.proofs.Common.{◌≡◌, ℕ, true, Some, None, cond, ap, subst, sym, ◌∙◌}
 use Rattle.std.specs.List.{slice_get}
 use Rattle.std.proofs.lemmas.Option.{same_Some}
-use Rattle.block_record.specs.Slips.{slip}
-use Rattle.block_record.specs.declared.blocks.Slip.{Slip}
-use Rattle.block_record.specs.Slips.{same_slip}
+use Rattle.block_record.specs.SlipRefs.{slip_seen}
 use Rattle.block_tree.proofs.public.PlaceFacts.{place_range}
 use Rattle.stored_blocks.specs.Stored.{is_gone}
 use Rattle.stored_blocks.proofs.public.HeldFacts.{held_gone, none_gone}
@@ -12,7 +10,7 @@ use Rattle.block_relay.proofs.merging.place_held.Goals as goal
 
 pub returns-in_default-clause-none : goal.returns-in_default-clause-none
 returns-in_default-clause-none c =
-    λ at _ k. absurd (none_some at (sym (place_missing c.args.db.now.history (slip c.args.block.now) (sym c.find.ensures ∙ c.in_default.is)) ∙ k))
+    λ at _ k. absurd (none_some at (sym (place_missing c.args.db.now.history (slip_seen c.args.slip) (sym c.find.ensures ∙ c.in_default.is)) ∙ k))
 
 pub slip-requires : goal.slip-requires
 slip-requires c = place_range _ _ _ (sym c.find.ensures ∙ c.in-Some.is)
@@ -22,15 +20,15 @@ held-requires c = place_range _ _ _ (sym c.find.ensures ∙ c.in-Some.is)
 
 pub returns-then-not-is_same-clause-none : goal.returns-then-not-is_same-clause-none
 returns-then-not-is_same-clause-none c =
-    let s = slip c.args.block.now in
-    let test = c.is_same.ensures ∙ ap (λ (x : Slip). same_slip x c.slip.result.now) c.of_block.ensures in
+    let s = slip_seen c.args.slip in
+    let test = c.is_same.ensures in
     let place = place_same c.args.db.now.history s c.slip.result.now c.in-Some.at c.is_same.result c.len.ensures.sound (sym c.find.ensures ∙ c.in-Some.is) c.slip.ensures test in
     λ at _ k. absurd (none_some at (sym (ap (λ b. cond b (Some c.in-Some.at) None) c.if-not-is_same.true) ∙ sym place ∙ k))
 
 pub returns-then-is_some-clause-some : goal.returns-then-is_some-clause-some
 returns-then-is_some-clause-some c =
-    let s = slip c.args.block.now in
-    let test = c.is_same.ensures ∙ ap (λ (x : Slip). same_slip x c.slip.result.now) c.of_block.ensures in
+    let s = slip_seen c.args.slip in
+    let test = c.is_same.ensures in
     let place = place_same c.args.db.now.history s c.slip.result.now c.in-Some.at c.is_same.result c.len.ensures.sound (sym c.find.ensures ∙ c.in-Some.is) c.slip.ensures test in
     place ∙ ap (λ b. cond b (Some c.in-Some.at) None) c.if-not-is_same.false
 
@@ -42,8 +40,8 @@ returns-then-is_some-clause-held c = record {
 
 pub returns-clause-none : goal.returns-clause-none
 returns-clause-none c =
-    let s = slip c.args.block.now in
-    let test = c.is_same.ensures ∙ ap (λ (x : Slip). same_slip x c.slip.result.now) c.of_block.ensures in
+    let s = slip_seen c.args.slip in
+    let test = c.is_same.ensures in
     let place = place_same c.args.db.now.history s c.slip.result.now c.in-Some.at c.is_same.result c.len.ensures.sound (sym c.find.ensures ∙ c.in-Some.is) c.slip.ensures test in
     let there = place ∙ ap (λ b. cond b (Some c.in-Some.at) None) c.if-not-is_same.false in
     let gone = ap is_gone c.held.ensures.value ∙ none_gone _ c.held.result (sym c.is_some.ensures ∙ c.if-is_some.false) in
