@@ -83,18 +83,18 @@ names_kept w (name ∷ names) old sound k =
     subst (λ (fs : Files). IsWholeKept fs w) (swept_first w name names old) (names_kept w names (swept_of w (name ∷ []) old) sound (one_name_kept w name old sound k))
 
 -- whatever names a sweep came to
-pub told_kept : (w : World) (names : List (List ℕ)) (old new : Option Files) → new ≡ told_swept w names old → StaysKept w old new
-told_kept w names None new e = tt
-told_kept w names (Some files) new e = subst (StaysKept w (Some files)) (sym e) (λ sound k. names_kept w names files sound k)
+pub told_kept : (w : World) (names : List (List ℕ)) (old new : Option Files) → IsSound w → new ≡ told_swept w names old → StaysKept w old new
+told_kept w names None new sound e = tt
+told_kept w names (Some files) new sound e = subst (StaysKept w (Some files)) (sym e) (λ k. names_kept w names files sound k)
 
-pub refused_kept : (w : World) (old mid new : Option Files) (before now : ℕ) (fault : StoreFault) → mid ≡ old → AreKept w mid new before now fault → StaysKept w old new
-refused_kept w old mid new before now fault same k = told_kept w k.names old new (k.files ∙ ap (told_swept w k.names) same)
+pub refused_kept : (w : World) (old mid new : Option Files) (before now : ℕ) (fault : StoreFault) → IsSound w → mid ≡ old → AreKept w mid new before now fault → StaysKept w old new
+refused_kept w old mid new before now fault sound same k = told_kept w k.names old new sound (k.files ∙ ap (told_swept w k.names) same)
 
-pub swept_kept : (w : World) (old new : Option Files) (count : ℕ) → IsSwept w old new count → StaysKept w old new
-swept_kept w None new count s = tt
-swept_kept w (Some files) new count s =
-    told_kept w (names_in (codes "one") files) (Some files) new (s.0 ∙ ap (λ (fs : Files). Some fs) (sym (swept_all w files)))
+pub swept_kept : (w : World) (old new : Option Files) (count : ℕ) → IsSound w → IsSwept w old new count → StaysKept w old new
+swept_kept w None new count sound s = tt
+swept_kept w (Some files) new count sound s =
+    told_kept w (names_in (codes "one") files) (Some files) new sound (s.0 ∙ ap (λ (fs : Files). Some fs) (sym (swept_all w files)))
 
 pub same_kept : (w : World) (old new : Option Files) → new ≡ old → StaysKept w old new
 same_kept w None new e = tt
-same_kept w (Some files) new e = subst (StaysKept w (Some files)) (sym e) (λ sound k. k)
+same_kept w (Some files) new e = subst (StaysKept w (Some files)) (sym e) (λ k. k)

@@ -8,7 +8,6 @@ use Rattle.outer_world.specs.Files.{Files, file_at, is_in, names_in}
 use Rattle.one_block.specs.declared.faults.StoreFault.{StoreFault}
 use Rattle.one_block.specs.declared.faults.StoreFault.TheVariants.{ShelfFault, ShelfBad, Missing, StoredOther, NameClash, Mem}
 use Rattle.relay_model.specs.Worlds.{World}
-use Rattle.relay_model.specs.Soundness.{IsSound}
 use Rattle.bundle_model.specs.Members.{Among}
 use Rattle.bundle_model.specs.Shedding.{may_sweep}
 use Rattle.store_files.specs.Texts.{slips_in}
@@ -112,4 +111,4 @@ SweepAnswers w old new before now (Err fault) = AreKept w old new before now fau
 abbrev pub StaysKept : World → Option Files → Option Files → Type 0
 StaysKept w None new = ⊤
 StaysKept w (Some old) None = ⊥
-StaysKept w (Some old) (Some new) = IsSound w → IsWholeKept old w → IsWholeKept new w
+StaysKept w (Some old) (Some new) = IsWholeKept old w → IsWholeKept new w

@@ -4,4 +4,4 @@
 mod owns;
 mod sweeps;
 
-pub use sweeps::{Sweeper, sweep_all};
+pub use sweeps::sweep_all;

@@ -3,39 +3,26 @@
 ghost use Rattle.std.specs.Prelude.{◌≡◌, ◌≤◌, IsTrue, codes};
 ghost use Rattle.outer_world.specs.Files.{is_in};
 ghost use Rattle.outer_world.specs.Shelves.{AreNamesOf};
-ghost use Rattle.bundle_model.specs.Shedding.{may_sweep};
-ghost use Rattle.relay_model.specs.Worlds.{World};
+ghost use Rattle.block_relay.specs.Chronicle.{world_told};
 ghost use Rattle.shelf_load.specs.Sweeps.{FileAnswers, IsOnly, NamesAnswer, StaysKept, SweepAnswers, one_if as counted};
 
 use crate::owns::own_slip;
-use block_record::Id;
+use block_relay::Relay;
 use one_block::StoreFault;
 use outer_world::{FileName, Shelf};
 use std::alloc::Global;
 
-/// What says which blocks need no file of their own any more.
-pub trait Sweeper {
-    /// The world by which it says so.
-    ghost world: { Self → World };
-
-    /// Whether the file of a block of this number and id may be removed from `one/`.
-    fn may_sweep(&self, num: u64, id: &Id) -> bool
-        ensures { result ≡ may_sweep (world self.now) num id.now };
-}
-
 /// Removes each file of `one/` whose block needs none any more, and tells how many there were.
-pub fn sweep_all<W: Sweeper, S: Shelf>(
-    alloc: Global,
-    relay: &W,
-    shelf: &mut S,
-) -> Result<u64, StoreFault>
-    ensures answer { SweepAnswers (W.world relay.now) (S.files shelf.old) (S.files shelf.new)
+pub fn sweep_all<S: Shelf>(alloc: Global, relay: &Relay, shelf: &mut S) -> Result<u64, StoreFault>
+    ensures answer { SweepAnswers (world_told relay.now) (S.files shelf.old) (S.files shelf.new)
         (S.shelf_faults shelf.old) (S.shelf_faults shelf.new) result }
     // Whatever the answer is, what the files keep of the world they go on to keep.
-    ensures kept { StaysKept (W.world relay.now) (S.files shelf.old) (S.files shelf.new) }
+    ensures kept { StaysKept (world_told relay.now) (S.files shelf.old) (S.files shelf.new) }
     ensures staged { S.staged shelf.new ≡ S.staged shelf.old }
     ensures later { S.shelf_faults shelf.old ≤ S.shelf_faults shelf.new }
 {
+    // The relay's world is sound.
+    let _ = relay.len();
     let mut names = Vec::new(alloc);
     shelf.list(alloc, "one", &mut names)?;
     let count = sweep_names(alloc, relay, shelf, names.as_slice())?;
@@ -43,14 +30,14 @@ pub fn sweep_all<W: Sweeper, S: Shelf>(
 }
 
 /// The same of the files of these names, which are all of the folder.
-fn sweep_names<W: Sweeper, S: Shelf>(
+fn sweep_names<S: Shelf>(
     alloc: Global,
-    relay: &W,
+    relay: &Relay,
     shelf: &mut S,
     names: &[FileName],
 ) -> Result<u64, StoreFault>
     requires { AreNamesOf (S.files shelf.old) (codes "one") names.now }
-    ensures answer { NamesAnswer (W.world relay.now) names.now (S.files shelf.old)
+    ensures answer { NamesAnswer (world_told relay.now) names.now (S.files shelf.old)
         (S.files shelf.new) (S.shelf_faults shelf.old) (S.shelf_faults shelf.new) result }
     ensures staged { S.staged shelf.new ≡ S.staged shelf.old }
     ensures later { S.shelf_faults shelf.old ≤ S.shelf_faults shelf.new }
@@ -71,15 +58,15 @@ fn one_if(removed: bool) -> u64
 }
 
 /// Removes the file of this name, where its block needs none any more, and tells whether it did.
-fn sweep_file<W: Sweeper, S: Shelf>(
+fn sweep_file<S: Shelf>(
     alloc: Global,
-    relay: &W,
+    relay: &Relay,
     shelf: &mut S,
     name: &FileName,
 ) -> Result<bool, StoreFault>
     requires inside { IsTrue (is_in (codes "one") name.now) }
     requires only { IsOnly (S.files shelf.old) name.now }
-    ensures answer { FileAnswers (W.world relay.now) name.now (S.files shelf.old)
+    ensures answer { FileAnswers (world_told relay.now) name.now (S.files shelf.old)
         (S.files shelf.new) (S.shelf_faults shelf.old) (S.shelf_faults shelf.new) result }
     ensures staged { S.staged shelf.new ≡ S.staged shelf.old }
     ensures later { S.shelf_faults shelf.old ≤ S.shelf_faults shelf.new }
