@@ -1,2 +1,1 @@
-mod Readers
-mod Values
+pub mod public

@@ -31,11 +31,11 @@ use Rattle.reply_text.specs.Lines.{cursor_after, ref_text, open_line, step_front
 use Rattle.reply_text.specs.Replies.{Reply, Open, StepOf, Head, End, Error, reply_line, reply_text}
 use Rattle.reply_text.specs.Values.{IsErrorValue, IsOpenValue, IsBlockValue, IsValue}
 use Rattle.reply_laws.specs.Laws.{LineHasOneValue, TextHasOneReading, ReadsFront}
-use Rattle.reply_laws.proofs.Readers.{NoneIs, whole_right, none-test, is_symbol, split_at, split_number, split_ref, split_escaped, none-id, none-standard, none-url_safe}
+use Rattle.reply_laws.proofs.public.Readers.{NoneIs, whole_right, none-test, is_symbol, split_at, split_number, split_ref, split_escaped, none-id, none-standard, none-url_safe}
 
 -- ---- the first line
 
-open_parts : (type : List ℕ) (run : ℕ) (place : Place) (more : List ℕ) → open_line type run place ++ more
+pub open_parts : (type : List ℕ) (run : ℕ) (place : Place) (more : List ℕ) → open_line type run place ++ more
     ≡ codes "{\"open\":\"" ++ (escaped type ++ 34 ∷ (codes ",\"run\":" ++ (decimal run ++ 44 ∷ (codes "\"end\":" ++ (ref_text place.end ++ (codes ",\"lib\":" ++ (ref_text place.lib ++ (codes "}\n" ++ more))))))))
 open_parts type run place more =
     whole_right
@@ -54,7 +54,7 @@ one_open t u m n p q more rest hp hq e =
 
 -- ---- step lines
 
-step_parts : (kind : Step) (b : Block) (place : Place) (tail : Tail) (more : List ℕ) → step_line kind b place tail ++ more
+pub step_parts : (kind : Step) (b : Block) (place : Place) (tail : Tail) (more : List ℕ) → step_line kind b place tail ++ more
     ≡ codes "{\"step\":\"" ++ (word_of kind ++ 34 ∷ (codes ",\"num\":" ++ (decimal b.num ++ 44 ∷ (codes "\"id\":\"" ++ (b.id ++ 34 ∷ (codes ",\"parent_num\":" ++ (decimal b.parent_num ++ 44 ∷ (codes "\"parent_id\":\""
     ++ (b.parent_id ++ 34 ∷ (codes ",\"lib_num\":" ++ (decimal b.lib_num ++ 44 ∷ (codes "\"time\":" ++ (decimal b.time ++ 44 ∷ (codes "\"payload\":\"" ++ (encode_of standard b.payload ++ 34 ∷ (codes ",\"digest\":\""
     ++ (encode_lower b.digest ++ (codes "\",\"cursor\":\"" ++ (cursor_text (cursor_after kind b place tail) ++ 34 ∷ (codes "}\n" ++ more))))))))))))))))))))
@@ -66,7 +66,7 @@ step_parts kind b place tail more =
     ∷ codes "\",\"cursor\":\"" ∷ [])
     (cursor_text (cursor_after kind b place tail) ++ (codes "\"}\n" ++ more))
 
-none-word : (kind : Step) → NoneIs 34 (word_of kind)
+pub none-word : (kind : Step) → NoneIs 34 (word_of kind)
 none-word step.New = (refl, (refl, (refl, tt)))
 none-word step.Undo = (refl, (refl, (refl, (refl, tt))))
 none-word step.Final = (refl, (refl, (refl, (refl, (refl, tt)))))
@@ -113,7 +113,7 @@ one_step law k l b c p q t u more rest hb pb hc pc e =
 
 -- ---- head lines
 
-head_parts : (head : Option BlockRef) (seen : ℕ) (more : List ℕ) → head_line head seen ++ more ≡ codes "{\"head\":" ++ (ref_text head ++ (codes ",\"seen\":" ++ (decimal seen ++ 125 ∷ (codes "\n" ++ more))))
+pub head_parts : (head : Option BlockRef) (seen : ℕ) (more : List ℕ) → head_line head seen ++ more ≡ codes "{\"head\":" ++ (ref_text head ++ (codes ",\"seen\":" ++ (decimal seen ++ 125 ∷ (codes "\n" ++ more))))
 head_parts head seen more = whole_right (codes "{\"head\":" ∷ ref_text head ∷ codes ",\"seen\":" ∷ decimal seen ∷ codes "}\n" ∷ []) more
 
 one_head : (a b : Option BlockRef) (m n : ℕ) (more rest : List ℕ) → IsValue (Head a m) → IsValue (Head b n) → head_line a m ++ more ≡ head_line b n ++ rest → (Head a m ≡ Head b n) × (more ≡ rest)
@@ -154,7 +154,7 @@ one_misfit misfit.Step misfit.Step e = refl
 one_misfit misfit.Seen misfit.Seen e = refl
 one_misfit f g e = absurd (let same : tag (misfit_word f) ≡ tag (misfit_word g) = ap tag e in omega (arith, same))
 
-none-request_word : (f : RequestField) → NoneIs 34 (request_word f)
+pub none-request_word : (f : RequestField) → NoneIs 34 (request_word f)
 none-request_word field.Shape = (refl, (refl, (refl, (refl, (refl, tt)))))
 none-request_word field.Extra = (refl, (refl, (refl, (refl, (refl, tt)))))
 none-request_word field.Start = none-test is_symbol 34 (request_word field.Start) refl refl
@@ -162,7 +162,7 @@ none-request_word field.Stop = none-test is_symbol 34 (request_word field.Stop) 
 none-request_word field.FinalOnly = none-test is_symbol 34 (request_word field.FinalOnly) refl refl
 none-request_word field.Cursor = none-test is_symbol 34 (request_word field.Cursor) refl refl
 
-none-misfit_word : (f : MisfitField) → NoneIs 34 (misfit_word f)
+pub none-misfit_word : (f : MisfitField) → NoneIs 34 (misfit_word f)
 none-misfit_word misfit.Block = none-test is_symbol 34 (misfit_word misfit.Block) refl refl
 none-misfit_word misfit.End = none-test is_symbol 34 (misfit_word misfit.End) refl refl
 none-misfit_word misfit.Lib = none-test is_symbol 34 (misfit_word misfit.Lib) refl refl
@@ -170,7 +170,7 @@ none-misfit_word misfit.Step = none-test is_symbol 34 (misfit_word misfit.Step) 
 none-misfit_word misfit.Seen = none-test is_symbol 34 (misfit_word misfit.Seen) refl refl
 
 -- the word of an error, and what stands after its quote
-abbrev error_word : ErrorLine → List ℕ
+abbrev pub error_word : ErrorLine → List ℕ
 error_word (fault.BadRequest f) = codes "bad_request"
 error_word fault.TooLong = codes "too_long"
 error_word (fault.Malformed at) = codes "malformed"
@@ -184,7 +184,7 @@ error_word (fault.StoredOther num id) = codes "stored_other"
 error_word fault.Spent = codes "spent"
 error_word fault.Mem = codes "memory"
 
-none-error_word : (e : ErrorLine) → NoneIs 34 (error_word e)
+pub none-error_word : (e : ErrorLine) → NoneIs 34 (error_word e)
 none-error_word (fault.BadRequest f) = none-test is_symbol 34 (codes "bad_request") refl refl
 none-error_word fault.TooLong = none-test is_symbol 34 (codes "too_long") refl refl
 none-error_word (fault.Malformed at) = none-test is_symbol 34 (codes "malformed") refl refl
@@ -198,7 +198,7 @@ none-error_word (fault.StoredOther num id) = none-test is_symbol 34 (codes "stor
 none-error_word fault.Spent = none-test is_symbol 34 (codes "spent") refl refl
 none-error_word fault.Mem = none-test is_symbol 34 (codes "memory") refl refl
 
-abbrev error_rest : ErrorLine → List ℕ → List ℕ
+abbrev pub error_rest : ErrorLine → List ℕ → List ℕ
 error_rest (fault.BadRequest f) more = codes ",\"field\":\"" ++ (request_word f ++ 34 ∷ (codes "}\n" ++ more))
 error_rest fault.TooLong more = codes "}\n" ++ more
 error_rest (fault.Malformed at) more = codes ",\"at\":" ++ (decimal at ++ 125 ∷ (codes "\n" ++ more))
@@ -212,7 +212,7 @@ error_rest (fault.StoredOther num id) more = codes ",\"num\":" ++ (decimal num +
 error_rest fault.Spent more = codes "}\n" ++ more
 error_rest fault.Mem more = codes "}\n" ++ more
 
-error_parts : (e : ErrorLine) (more : List ℕ) → error_line e ++ more ≡ codes "{\"error\":\"" ++ (error_word e ++ 34 ∷ error_rest e more)
+pub error_parts : (e : ErrorLine) (more : List ℕ) → error_line e ++ more ≡ codes "{\"error\":\"" ++ (error_word e ++ 34 ∷ error_rest e more)
 error_parts (fault.BadRequest f) more = whole_right (codes "{\"error\":\"bad_request\",\"field\":\"" ∷ request_word f ∷ codes "\"}\n" ∷ []) more
 error_parts fault.TooLong more = refl
 error_parts (fault.Malformed at) more = whole_right (codes "{\"error\":\"malformed\",\"at\":" ∷ decimal at ∷ codes "}\n" ∷ []) more

@@ -39,7 +39,7 @@ whole_right (p ∷ ps) more = append_assoc p (concat ps) more ∙ ap (λ l. p ++
 abbrev pub NoneIs : ℕ → List ℕ → Type 0
 NoneIs s text = AllByRecursion (λ b. eqb b s ≡ false) text
 
-none-append : (s : ℕ) (a b : List ℕ) → NoneIs s a → NoneIs s b → NoneIs s (a ++ b)
+pub none-append : (s : ℕ) (a b : List ℕ) → NoneIs s a → NoneIs s b → NoneIs s (a ++ b)
 none-append s [] b ha hb = hb
 none-append s (x ∷ a) b ha hb = (ha.0, none-append s a b ha.1 hb)
 
@@ -100,7 +100,7 @@ digits_all : (l : List ℕ) → all_ascii_digits l ≡ list_all is_ascii_digit l
 digits_all [] = refl
 digits_all (x ∷ l) = ap (λ t. is_ascii_digit x && t) (digits_all l)
 
-none-decimal : (s n : ℕ) → is_ascii_digit s ≡ false → n < 2 ^ 64 → NoneIs s (decimal n)
+pub none-decimal : (s n : ℕ) → is_ascii_digit s ≡ false → n < 2 ^ 64 → NoneIs s (decimal n)
 none-decimal s n isnt small = none-test is_ascii_digit s (decimal n) isnt (sym (digits_all (decimal n)) ∙ digits_decimal numerals n small)
 
 pub same_number : (m n : ℕ) → m < 2 ^ 64 → n < 2 ^ 64 → decimal m ≡ decimal n → m ≡ n
@@ -164,7 +164,7 @@ byte_again x u = go (is_quoted x) (ltb x 32) refl refl
         let other : eqb x 92 ≡ false = ne_eqb x 92 (λ (e : x ≡ 92). false≢true (sym k ∙ ap is_quoted e)) in
         rw other refl
 
-never_quote : (x : ℕ) (u : List ℕ) → get_or (escaped_byte x ++ u) 0 0 ≡ 34 → ⊥
+pub never_quote : (x : ℕ) (u : List ℕ) → get_or (escaped_byte x ++ u) 0 0 ≡ 34 → ⊥
 never_quote x u = go (is_quoted x) (ltb x 32) refl
   where
     go : (t v : Bool) → is_quoted x ≡ t → get_or (cond t (92 ∷ x ∷ []) (cond v (codes "\\u00" ++ encode_lower (x ∷ [])) (x ∷ [])) ++ u) 0 0 ≡ 34 → ⊥
