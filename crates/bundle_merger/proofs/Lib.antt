@@ -1,3 +1,6 @@
 mod WriteFacts
 mod MessageFacts
 mod DeadFacts
+mod HeldFacts
+mod StepFacts
+mod ShedFacts

@@ -1,2 +1,4 @@
 pub mod Containers
 pub mod Writes
+pub mod ReadBack
+pub mod Merging

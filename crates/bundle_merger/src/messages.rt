@@ -8,7 +8,7 @@ ghost use Rattle.outer_world.specs.Shelves.{with_piece};
 ghost use Rattle.bundle_merger.specs.Containers.{blocks_of, bundle_text, messages_text};
 ghost use Rattle.bundle_merger.specs.Writes.{Refuses};
 
-use block_record::{Block, Kind, encode};
+use block_record::{Block, Kind, push_record};
 use dbin_file::header;
 use one_block::StoreFault;
 use outer_world::Shelf;

@@ -4,8 +4,10 @@ ghost use Rattle.std.specs.Prelude.{◌≡◌, ◌≤◌, IfErr, OnOk};
 ghost use Rattle.std.specs.Arc.{arc_value};
 ghost use Rattle.outer_world.specs.Shelves.{emptied};
 ghost use Rattle.bundle_merger.specs.Containers.{blocks_of, bundle_text};
+ghost use Rattle.bundle_merger.specs.ReadBack.{IsReadBack};
 ghost use Rattle.bundle_merger.specs.Writes.{IsStopped, bundle_files, dead_file, dead_files, plan_files, told_with_all, one_file};
 
+use crate::held::show_held;
 use crate::messages::stage_blocks;
 use block_record::{Block, Kind};
 use one_block::{StoreFault, forked_name, merged_name};
@@ -32,7 +34,10 @@ pub fn write_plan<S: Shelf>(
         (S.shelf_faults shelf.old) (S.shelf_faults shelf.new)) }
     ensures emptied { OnOk result (S.staged shelf.new ≡ emptied (S.staged shelf.old)) }
     ensures later { S.shelf_faults shelf.old ≤ S.shelf_faults shelf.new }
+    // Each of these files holds its blocks and nothing else.
+    ensures held { IsReadBack kind.now plan.now }
 {
+    show_held(plan, kind);
     write_dead(alloc, shelf, plan.dead.as_slice(), kind)?;
     write_bundle(alloc, shelf, plan, kind)?;
     Ok(())
