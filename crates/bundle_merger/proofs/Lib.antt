@@ -4,3 +4,4 @@ mod DeadFacts
 mod HeldFacts
 mod StepFacts
 mod ShedFacts
+mod KeptFacts

@@ -50,7 +50,7 @@ pub told_none : (files : Option Files) → files ≡ told_with_all [] files
 told_none None = refl
 told_none (Some files) = refl
 
-with_all-append : (a b : Writes) (files : Files) → with_all (a ++ b) files ≡ with_all b (with_all a files)
+pub with_all-append : (a b : Writes) (files : Files) → with_all (a ++ b) files ≡ with_all b (with_all a files)
 with_all-append [] b files = refl
 with_all-append (w ∷ a) b files = with_all-append a b (with_file w.0 w.1 files)
 

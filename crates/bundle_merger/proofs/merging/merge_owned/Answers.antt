@@ -8,6 +8,7 @@ use Rattle.block_relay.specs.Chronicle.{world_told}
 use Rattle.stored_blocks.specs.declared.plans.BundlePlan.{BundlePlan}
 use Rattle.stored_blocks.specs.BundlePlans.{plan_seen}
 use Rattle.bundle_merger.specs.Merging.{HasMerged, IsHalted, listed}
+use Rattle.bundle_merger.proofs.KeptFacts.{done_kept, halted_kept}
 use Rattle.bundle_merger.proofs.ShedFacts.{size_some}
 use Rattle.bundle_merger.proofs.StepFacts.{adds_on, count_one, done_changes, done_front, done_own, done_size, done_sound, halted_on, merged_on, seen_count}
 use Rattle.bundle_merger.proofs.merging.merge_owned.Goals as goal
@@ -91,3 +92,14 @@ returns-clause-left g c =
     let some = done_size (world_told c.args.relay.now) (world_told c.merge_next.new.relay) (g.S.Shelf.files c.args.shelf.now) (g.S.Shelf.files c.merge_next.new.shelf) plans h (size_some c.size.result (world_told c.args.relay.now).size c.size.ensures.size c.size.ensures.sized) in
     let sound = done_sound (world_told c.args.relay.now) (world_told c.merge_next.new.relay) (g.S.Shelf.files c.args.shelf.now) (g.S.Shelf.files c.merge_next.new.shelf) plans c.len.ensures.sound h in
     λ f o. own_plans_retain (world_told c.merge_next.new.relay) some sound.history (done_front (world_told c.args.relay.now) (world_told c.merge_next.new.relay) (g.S.Shelf.files c.args.shelf.now) (g.S.Shelf.files c.merge_next.new.shelf) plans (size_some c.size.result (world_told c.args.relay.now).size c.size.ensures.size c.size.ensures.sized) c.len.ensures.sound h f) (done_own (world_told c.args.relay.now) (world_told c.merge_next.new.relay) (g.S.Shelf.files c.args.shelf.now) (g.S.Shelf.files c.merge_next.new.shelf) plans (size_some c.size.result (world_told c.args.relay.now).size c.size.ensures.size c.size.ensures.sized) c.len.ensures.sound h o) last
+
+pub returns-in_err-plan-clause-kept : goal.returns-in_err-plan-clause-kept
+returns-in_err-plan-clause-kept g c =
+    let h = halted_on (world_told c.args.relay.now) (world_told c.loop-plan.relay) (world_told c.merge_next.new.relay) (g.S.Shelf.files c.args.shelf.now) (g.S.Shelf.files c.loop-plan.shelf) (g.S.Shelf.files c.merge_next.new.shelf) (g.S.Shelf.shelf_faults c.args.shelf.now) (g.S.Shelf.shelf_faults c.loop-plan.shelf) (g.S.Shelf.shelf_faults c.merge_next.new.shelf) c.in_err-plan.field-0.0 c.loop-plan.invariant.merged.0 c.loop-plan.invariant.merged.1 c.loop-plan.invariant.later c.in_err-plan.ensures.halted in
+    halted_kept (world_told c.args.relay.now) (world_told c.merge_next.new.relay) (g.S.Shelf.files c.args.shelf.now) (g.S.Shelf.files c.merge_next.new.shelf) (g.S.Shelf.shelf_faults c.args.shelf.now) (g.S.Shelf.shelf_faults c.merge_next.new.shelf) c.in_err-plan.field-0.0 c.len.ensures.sound h
+
+pub returns-clause-kept : goal.returns-clause-kept
+returns-clause-kept g c =
+    let h = merged_on (world_told c.args.relay.now) (world_told c.loop-plan.relay) (world_told c.merge_next.new.relay) (g.S.Shelf.files c.args.shelf.now) (g.S.Shelf.files c.loop-plan.shelf) (g.S.Shelf.files c.merge_next.new.shelf) c.loop-plan.invariant.merged.0 (listed c.in_ok-plan.field-0) c.loop-plan.invariant.merged.1 c.in_ok-plan.ensures.merged in
+    let plans = c.loop-plan.invariant.merged.0 ++ (listed c.in_ok-plan.field-0) in
+    done_kept (world_told c.args.relay.now) (world_told c.merge_next.new.relay) (g.S.Shelf.files c.args.shelf.now) (g.S.Shelf.files c.merge_next.new.shelf) plans c.len.ensures.sound h
