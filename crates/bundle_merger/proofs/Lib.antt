@@ -5,3 +5,4 @@ mod HeldFacts
 mod StepFacts
 mod ShedFacts
 mod KeptFacts
+mod AllFacts

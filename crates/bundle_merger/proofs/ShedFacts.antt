@@ -1,9 +1,10 @@
 -- What the world keeps while plans are shed.
-use Rattle.std.proofs.Common.{arith, ◌≡◌, ◌<◌, ℕ, inl, inr, Bool, true, false, cond, eqb, List, [], ◌∷◌, ◌++◌, length, Option, Some, None, refl, IsTrue}
+use Rattle.std.proofs.Common.{arith, ◌≡◌, ◌<◌, ℕ, inl, inr, Bool, true, false, cond, eqb, List, [], ◌∷◌, ◌++◌, length, Option, Some, None, refl, sym, ◌∙◌, IsTrue}
 use Rattle.std.specs.List.{AllByRecursion, list_any}
 use Rattle.std.specs.Prelude.{◌==◌}
 use Rattle.std.proofs.lemmas.Bool.{eqb-true, or_cases}
 use Rattle.block_record.specs.declared.blocks.Slip.{Slip}
+use Rattle.one_block.specs.Files.{IsSize}
 use Rattle.relay_model.specs.Soundness.{IsSound}
 use Rattle.relay_model.specs.Worlds.{World}
 use Rattle.bundle_model.specs.Bundles.{is_size}
@@ -62,3 +63,7 @@ all_own w (plan ∷ plans) some s next f = all_own (shed w plan) plans some (she
 -- a bundle covers some numbers
 pub size_some : (n size : ℕ) → n ≡ size → IsTrue (is_size n) → 0 < size
 size_some n size e is = elim (or_cases (eqb n 100) (eqb n 1000) is) [ inl a ↦ (let k = eqb-true n 100 a in omega (arith, e, k)) | inr b ↦ (let k = eqb-true n 1000 b in omega (arith, e, k)) ]
+
+-- 100 or 1,000
+pub one_size : (n size : ℕ) → n ≡ size → IsTrue (is_size n) → IsSize size
+one_size n size e is = elim (or_cases (eqb n 100) (eqb n 1000) is) [ inl a ↦ inl (sym e ∙ eqb-true n 100 a) | inr b ↦ inr (sym e ∙ eqb-true n 1000 b) ]

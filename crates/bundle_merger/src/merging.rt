@@ -7,7 +7,7 @@ ghost use Rattle.bundle_model.specs.Plans.{next_plan};
 ghost use Rattle.bundle_model.specs.Retained.{left_count, retained};
 ghost use Rattle.block_relay.specs.Chronicle.{world_told};
 ghost use Rattle.stored_blocks.specs.BundlePlans.{plan_seen};
-ghost use Rattle.bundle_merger.specs.MergedFiles.{StaysKept};
+ghost use Rattle.bundle_merger.specs.MergedFiles.{MergesAll, StaysKept};
 ghost use Rattle.bundle_merger.specs.Merging.{AddsStored, ChangesStored, HasMerged, IsHalted, IsMerged, bundle_count, listed};
 
 use crate::writes::write_plan;
@@ -46,9 +46,11 @@ pub fn merge_owned<S: Shelf>(
     ensures conflicts { relay.new.conflicts ≡ relay.old.conflicts }
     ensures later { S.shelf_faults shelf.old ≤ S.shelf_faults shelf.new }
 
-    // What the files keep of the relay they go on to keep.
+    // What the files keep of the relay they go on to keep, and at Ok all bundles are there.
     ensures kept { StaysKept (world_told relay.old) (world_told relay.new)
         (S.files shelf.old) (S.files shelf.new) }
+    ensures all { IfOk result
+        (MergesAll (world_told relay.old) (S.files shelf.old) (S.files shelf.new)) }
 
     // What is known of the stored blocks stays so, and then few blocks are retained.
     ensures front { IsFrontStored (world_told relay.old) → IsFrontStored (world_told relay.new) }

@@ -7,9 +7,10 @@ use Rattle.bundle_model.proofs.public.RetainedFacts.{no_plan_retains, own_plans_
 use Rattle.block_relay.specs.Chronicle.{world_told}
 use Rattle.stored_blocks.specs.declared.plans.BundlePlan.{BundlePlan}
 use Rattle.stored_blocks.specs.BundlePlans.{plan_seen}
-use Rattle.bundle_merger.specs.Merging.{HasMerged, IsHalted, listed}
+use Rattle.bundle_merger.specs.Merging.{HasMerged, IsHalted, bundle_count, listed, plans_seen}
 use Rattle.bundle_merger.proofs.KeptFacts.{done_kept, halted_kept}
-use Rattle.bundle_merger.proofs.ShedFacts.{size_some}
+use Rattle.bundle_merger.proofs.AllFacts.{merges_all}
+use Rattle.bundle_merger.proofs.ShedFacts.{one_size, size_some}
 use Rattle.bundle_merger.proofs.StepFacts.{adds_on, count_one, done_changes, done_front, done_own, done_size, done_sound, halted_on, merged_on, seen_count}
 use Rattle.bundle_merger.proofs.merging.merge_owned.Goals as goal
 
@@ -103,3 +104,14 @@ returns-clause-kept g c =
     let h = merged_on (world_told c.args.relay.now) (world_told c.loop-plan.relay) (world_told c.merge_next.new.relay) (g.S.Shelf.files c.args.shelf.now) (g.S.Shelf.files c.loop-plan.shelf) (g.S.Shelf.files c.merge_next.new.shelf) c.loop-plan.invariant.merged.0 (listed c.in_ok-plan.field-0) c.loop-plan.invariant.merged.1 c.in_ok-plan.ensures.merged in
     let plans = c.loop-plan.invariant.merged.0 ++ (listed c.in_ok-plan.field-0) in
     done_kept (world_told c.args.relay.now) (world_told c.merge_next.new.relay) (g.S.Shelf.files c.args.shelf.now) (g.S.Shelf.files c.merge_next.new.shelf) plans c.len.ensures.sound h
+
+pub returns-clause-all : goal.returns-clause-all
+returns-clause-all g c =
+    let h = merged_on (world_told c.args.relay.now) (world_told c.loop-plan.relay) (world_told c.merge_next.new.relay) (g.S.Shelf.files c.args.shelf.now) (g.S.Shelf.files c.loop-plan.shelf) (g.S.Shelf.files c.merge_next.new.shelf) c.loop-plan.invariant.merged.0 (listed c.in_ok-plan.field-0) c.loop-plan.invariant.merged.1 c.in_ok-plan.ensures.merged in
+    let plans = c.loop-plan.invariant.merged.0 ++ (listed c.in_ok-plan.field-0) in
+    let last : next_plan (world_told c.merge_next.new.relay) ≡ None = c.in_ok-plan.ensures.last c.in_default.is in
+    let none = ap (λ (o : Option BundlePlan). bundle_count (plans_seen (listed o))) (sym c.in_default.is) in
+    let count = seen_count c.loop-plan.invariant.merged.0 (listed c.in_ok-plan.field-0) c.loop-plan.bundles 0 c.loop-plan.invariant.merged.2 none in
+    merges_all (world_told c.args.relay.now) (world_told c.merge_next.new.relay) (g.S.Shelf.files c.args.shelf.now) (g.S.Shelf.files c.merge_next.new.shelf) (record { bundles = c.loop-plan.bundles; stored = c.stored_finals-stored.result }) (size_some c.size.result (world_told c.args.relay.now).size c.size.ensures.size c.size.ensures.sized)
+    (one_size c.size.result (world_told c.args.relay.now).size c.size.ensures.size c.size.ensures.sized) c.len.ensures.sound
+    (record { plans = plans; done = h; last = last; bundles = omega (arith, count); stored = c.stored_finals-stored.ensures })
