@@ -1,6 +1,6 @@
 -- Why all bundles are on the shelf once there is no further plan, and what is counted then.
 use Rattle.std.proofs.Common.{arith, ◌≡◌, ◌<◌, ◌≤◌, ◌+◌, ◌*◌, ◌/◌, ◌^◌, ◌⊎◌, inl, inr, ℕ, Bool, true, false, cond, List, [], ◌∷◌, ◌++◌, length, map, reverse, Option, Some, None, refl, sym, ap, subst, ◌∙◌, IsTrue}
-use Rattle.std.specs.List.{AllByRecursion, filter}
+use Rattle.std.specs.List.{filter}
 use Rattle.std.specs.Prelude.{IsSomeAnd}
 use Rattle.std.specs.Str.{bytes_eq}
 use Rattle.std.proofs.lemmas.Bool.{both_ways, cases_Bool, cases_lt}
@@ -42,8 +42,8 @@ use Rattle.stored_blocks.specs.BundlePlans.{plan_seen}
 use Rattle.bundle_merger.specs.declared.merging.Merged.{Merged}
 use Rattle.bundle_merger.specs.Containers.{blocks_of, bundle_text}
 use Rattle.bundle_merger.specs.MergedFiles.{AreBundleFiles, HasBundleFile, HoldsBundle, IsBegun, MergesAll}
-use Rattle.bundle_merger.specs.Merging.{AreNext, HasMerged, IsMerged, all_shed, files_by, files_of, plans_seen}
-use Rattle.bundle_merger.specs.ReadBack.{AreReadBack, IsHeldAlone, IsReadBack}
+use Rattle.bundle_merger.specs.Merging.{AreNext, IsMerged, all_shed, files_by, files_of, plans_seen}
+use Rattle.bundle_merger.specs.ReadBack.{AreReadBack, IsReadBack}
 use Rattle.bundle_merger.specs.Writes.{bundle_files, dead_files, plan_files, with_all}
 use Rattle.bundle_merger.proofs.KeptFacts.{seen_blocks, text_is}
 use Rattle.bundle_merger.proofs.ShedFacts.{all_front, all_sound, shed_changes, shed_sound}

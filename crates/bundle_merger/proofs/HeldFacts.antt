@@ -1,5 +1,5 @@
 -- Why the files of a plan hold its blocks.
-use Rattle.std.proofs.Common.{◌≡◌, ◌≤◌, ◌<◌, ◌+◌, ℕ, inl, inr, List, [], ◌∷◌, ◌++◌, length, take, get_or, map, reverse, refl, sym, ap, subst, ◌∙◌, None}
+use Rattle.std.proofs.Common.{◌≡◌, ◌<◌, ◌+◌, ℕ, inl, List, [], ◌∷◌, length, take, get_or, map, reverse, refl, sym, subst, None}
 use Rattle.std.specs.Arc.{arc_value}
 use Rattle.std.specs.declared.sync.Arc.{Arc}
 use Rattle.std.specs.List.{AllByRecursion}
@@ -12,7 +12,7 @@ use Rattle.block_record.proofs.public.RecordFacts.{one_record}
 use Rattle.block_record.proofs.public.RecordSizes.{record_small}
 use Rattle.dbin_file.specs.Contents.{contents, container_text}
 use Rattle.dbin_file.specs.Laws.{ContainerIsRead, IsReadAs}
-use Rattle.dbin_file.specs.Messages.{AreMessages, message_max}
+use Rattle.dbin_file.specs.Messages.{AreMessages}
 use Rattle.one_block.specs.Containers.{IsRecordOf, container_fault}
 use Rattle.one_block.specs.Heads.{AreRecordsOf, HoldsBlocks}
 use Rattle.bundle_model.proofs.public.MemberFacts.{all_append}

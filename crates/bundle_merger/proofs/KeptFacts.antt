@@ -44,7 +44,7 @@ use Rattle.bundle_merger.specs.MergedFiles.{StaysKept}
 use Rattle.bundle_merger.specs.Merging.{AreNext, HasMerged, IsHalted, all_shed, files_by, files_of, listed, plans_seen}
 use Rattle.bundle_merger.specs.ReadBack.{AreReadBack, IsHeldAlone, IsReadBack}
 use Rattle.bundle_merger.specs.Writes.{Writes, bundle_files, dead_file, dead_files, plan_files, told_with_all, with_all}
-use Rattle.bundle_merger.proofs.ShedFacts.{all_sound, shed_changes, shed_sound}
+use Rattle.bundle_merger.proofs.ShedFacts.{shed_changes, shed_sound}
 use Rattle.bundle_merger.proofs.StepFacts.{done_sound}
 use Rattle.bundle_merger.proofs.WriteFacts.{with_all-append}
 

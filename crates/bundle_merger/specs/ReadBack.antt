@@ -1,5 +1,5 @@
 -- What the files of a plan hold.
-use Rattle.std.specs.Prelude.{ℕ, List, [], ◌∷◌, reverse, Option, None, Some, ⊤}
+use Rattle.std.specs.Prelude.{List, [], ◌∷◌, reverse, Option, None, Some, ⊤}
 use Rattle.std.specs.List.{AllByRecursion}
 use Rattle.block_record.specs.declared.blocks.Block.{Block}
 use Rattle.block_record.specs.declared.blocks.Kind.{Kind}

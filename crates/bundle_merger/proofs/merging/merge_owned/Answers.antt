@@ -1,13 +1,12 @@
-use Rattle.std.proofs.Common.{arith, ◌≡◌, ◌<◌, ◌∷◌, ◌++◌, [], List, None, Option, refl, sym, ap, subst, ◌∙◌, IfSome}
+use Rattle.std.proofs.Common.{arith, ◌≡◌, ◌<◌, ◌∷◌, ◌++◌, [], None, Option, sym, ap, subst, ◌∙◌, IfSome}
 use Rattle.std.proofs.lemmas.Result.{err_from_is_err_and}
-use Rattle.relay_model.specs.Worlds.{World}
 use Rattle.bundle_model.specs.Plans.{next_plan}
 use Rattle.bundle_model.specs.Retained.{retained}
 use Rattle.bundle_model.proofs.public.RetainedFacts.{no_plan_retains, own_plans_retain}
 use Rattle.block_relay.specs.Chronicle.{world_told}
 use Rattle.stored_blocks.specs.declared.plans.BundlePlan.{BundlePlan}
 use Rattle.stored_blocks.specs.BundlePlans.{plan_seen}
-use Rattle.bundle_merger.specs.Merging.{HasMerged, IsHalted, bundle_count, listed, plans_seen}
+use Rattle.bundle_merger.specs.Merging.{HasMerged, bundle_count, listed, plans_seen}
 use Rattle.bundle_merger.proofs.KeptFacts.{done_kept, halted_kept}
 use Rattle.bundle_merger.proofs.AllFacts.{merges_all}
 use Rattle.bundle_merger.proofs.ShedFacts.{one_size, size_some}
