@@ -2,6 +2,9 @@
 use Rattle.std.specs.Prelude.{ℕ, ◌≡◌, Bool, true, false, List, [], Option, None, Some, codes}
 use Rattle.check_command.specs.Check.{CheckRun}
 use Rattle.cursor_command.specs.CursorCommand.{CursorRun}
+use Rattle.node_command.specs.declared.options.NodeOptions.{NodeOptions}
+use Rattle.node_command.specs.NodeRuns.{NodeRun}
+use Rattle.node_command.specs.NodeWords.{names_node}
 use Rattle.steps_command.specs.Runs.{StepsRun}
 use Rattle.command_io.specs.Streams.{Flow, ShelfState, Streams, TookInput, WroteNothing, ToldError}
 use Rattle.fire_tool.specs.Words.{cursor_value, names_check, steps_first}
@@ -27,10 +30,15 @@ abbrev pub RunsCommand : Option (List ℕ) → List (List ℕ) → Streams → S
 RunsCommand None words before after status = Runs (steps_first words) before after status
 RunsCommand (Some text) words before after status = CursorRun text before after status
 
+-- a run of `node` with these options, where the words name that, and else of another command
+abbrev pub RunsNode : Option NodeOptions → List (List ℕ) → Streams → Streams → ℕ → Type 0
+RunsNode None words before after status = RunsCommand (cursor_value words) words before after status
+RunsNode (Some options) words before after status = NodeRun options before after status
+
 -- a run of `check`, where the words name that, and else of another command
 abbrev pub RunsNamed : Bool → List (List ℕ) → ShelfState → ShelfState → Streams → Streams → ℕ → Type 0
 RunsNamed true words shelf shelf' before after status = CheckRun shelf shelf' before after status
-RunsNamed false words shelf shelf' before after status = RunsCommand (cursor_value words) words before after status
+RunsNamed false words shelf shelf' before after status = RunsNode (names_node words) words before after status
 
 -- a run with these words over a shelf that was so and is now so, by the command that they name
 abbrev pub RunsPlain : List (List ℕ) → ShelfState → ShelfState → Streams → Streams → ℕ → Type 0

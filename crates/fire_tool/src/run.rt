@@ -3,14 +3,16 @@
 
 ghost use Rattle.std.specs.Prelude.{◌≡◌, codes, false, map, true};
 ghost use Rattle.check_command.specs.Check.{ReportsGood};
-ghost use Rattle.fire_tool.specs.Program.{RunsPlain};
+ghost use Rattle.fire_tool.specs.Program.{RunsNode, RunsPlain};
 ghost use Rattle.fire_tool.specs.Words.{names_check};
+ghost use Rattle.node_command.specs.NodeWords.{names_node as names_node_of};
 ghost use Rattle.command_io.specs.Streams.{ToldLine, shelf_at, sink_at, streams_at};
 
 use crate::words::{cursor_value, is_check, steps_first};
 use check_command::run_check;
 use command_io::{Status, tell_error};
 use cursor_command::run_cursor;
+use node_command::{names_node, run_node};
 use outer_world::{Shelf, Sink, Source};
 use std::alloc::Global;
 use steps_command::run_steps;
@@ -46,11 +48,30 @@ pub fn run_plain<I: Source, O: Sink, E: Sink, S: Shelf>(
     if is_check(words) {
         return run_check(alloc, shelf, output, errors);
     }
-    match cursor_value(words) {
-        Some(text) => run_cursor(alloc, text, output, errors),
-        None => match steps_first(words) {
-            Some(first) => run_steps(alloc, first, input, output, errors),
-            None => refuse_words(errors),
+    run_streams(alloc, words, input, output, errors)
+}
+
+/// Runs the command that the words name, which is not `check`, over streams alone.
+fn run_streams<I: Source, O: Sink, E: Sink>(
+    alloc: Global,
+    words: &[Vec<u8>],
+    input: &mut I,
+    output: &mut O,
+    errors: &mut E,
+) -> Status
+    ensures { let streams = streams_at I.Source O.Sink E.Sink in
+        RunsNode (names_node_of (map (λ w. w.items) words.now)) (map (λ w. w.items) words.now)
+        (streams input.old output.old errors.old)
+        (streams input.new output.new errors.new) result.code }
+{
+    match names_node(words) {
+        Some(options) => run_node(alloc, options, output, errors),
+        None => match cursor_value(words) {
+            Some(text) => run_cursor(alloc, text, output, errors),
+            None => match steps_first(words) {
+                Some(first) => run_steps(alloc, first, input, output, errors),
+                None => refuse_words(errors),
+            },
         },
     }
 }
