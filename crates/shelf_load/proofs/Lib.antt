@@ -2,3 +2,6 @@ mod FilterFacts
 mod SweepFacts
 mod AnswerFacts
 mod KeptFacts
+mod LoadingFacts
+mod TakingFacts
+mod EndingFacts

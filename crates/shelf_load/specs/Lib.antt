@@ -1,2 +1,5 @@
 pub mod Owns
 pub mod Sweeps
+pub mod Asides
+pub mod Taking
+pub mod Ending
