@@ -1,9 +1,9 @@
 -- What the blocks that were taken leave, as the definition of loading has it.
 use Rattle.std.proofs.Common.{arith, ◌≡◌, ◌≤◌, ℕ, Bool, true, false, cond, List, [], ◌∷◌, ◌++◌, map, Option, Some, None, refl, sym, ap, subst, ◌∙◌, ltb}
 use Rattle.std.specs.List.{AllByRecursion}
-use Rattle.std.proofs.lemmas.Bool.{cases_Bool}
+use Rattle.std.proofs.lemmas.Bool.{ltb-false}
 use Rattle.block_record.specs.declared.blocks.Slip.{Slip}
-use Rattle.chain_model.specs.Ancestry.{has_id}
+use Rattle.chain_model.specs.Ancestry.{IsHistory}
 use Rattle.relay_model.specs.Worlds.{World}
 use Rattle.relay_model.specs.Offers.{Answer, answer_by, judge, offered, tip_num, world_by}
 use Rattle.relay_model.specs.Verdicts.{Verdict}
@@ -73,3 +73,59 @@ slips_taken ts = map (λ t. t.slip) ts
 pub all_follow : (g : Stage) (l : Loading) (ts : List Taken) → Follows g l → Follows (take_all g ts) (load_all l (slips_taken ts))
 all_follow g l [] f = f
 all_follow g l (t ∷ ts) f = one_follows (take_all g ts) (load_all l (slips_taken ts)) t (all_follow g l ts f)
+
+-- ---- payloads that are not kept
+
+-- a block that was put by without its payload is not above the tip
+abbrev pub IsLow : List Slip → Put → Type 0
+IsLow newest p = p.kept ≡ false → p.slip.num ≤ tip_num newest
+
+low_later : (older newer : List Slip) (puts : List Put) → tip_num older ≤ tip_num newer → AllByRecursion (IsLow older) puts → AllByRecursion (IsLow newer) puts
+low_later older newer [] up all = tt
+low_later older newer (p ∷ puts) up all = ((λ e. let low = all.0 e in omega (arith, low, up)), low_later older newer puts up all.1)
+
+-- no offer lowers the tip
+pub offer_rises : (w : World) (s : Slip) → IsSound w → IsBlock s → tip_num w.history ≤ tip_num (offered w s).world.history
+offer_rises w s sound block =
+    let grows = offer_grows w s in
+    let whole : IsHistory (grows.0 ++ w.history) = subst IsHistory (sym grows.1) (offer_keeps w s sound block).history in
+    subst (λ (h : List Slip). tip_num w.history ≤ tip_num h) grows.1 (tip_rises grows.0 w.history whole)
+
+-- what holds while blocks are taken
+pub record IsGoing (g : Stage) (l : Loading) : Type 0 where
+  pub follows : Follows g l
+  pub sound : IsSound l.world
+  pub low : AllByRecursion (IsLow l.world.history) g.aside.put_by
+
+after_going : (g : Stage) (l : Loading) (s : Slip) → IsBlock s → IsGoing g l → IsGoing (after_block g s) (load_one l s)
+after_going g l s block i = record { follows = after_follows g l s i.follows; sound = sound; low = low }
+  where
+    same : g.world.history ≡ l.world.history
+    same = ap (λ (w : World). w.history) i.follows.world
+
+    by_test : (b : Bool) → IsSound (cond b (offer_one l s) (record { world = l.world; put_by = s ∷ l.put_by; full = l.full })).world
+    by_test true = offer_keeps l.world s i.sound block
+    by_test false = i.sound
+
+    sound : IsSound (load_one l s).world
+    sound = by_test (is_offered l.world.history s)
+
+    low_put : (t : Bool) → ltb (tip_num g.world.history) s.num ≡ t → t ≡ false → s.num ≤ tip_num l.world.history
+    low_put t e f = let high = ltb-false (tip_num g.world.history) s.num (e ∙ f) in let tips = ap tip_num same in omega (arith, high, tips)
+
+    low_by : (b : Bool) → AllByRecursion (IsLow (cond b (offer_one l s) (record { world = l.world; put_by = s ∷ l.put_by; full = l.full })).world.history) (cond b (after_offer g s) (after_put_by g s)).aside.put_by
+    low_by true = low_later l.world.history (offered l.world s).world.history g.aside.put_by (offer_rises l.world s i.sound block) i.low
+    low_by false = (low_put (ltb (tip_num g.world.history) s.num) refl, i.low)
+
+    low : AllByRecursion (IsLow (load_one l s).world.history) (after_block g s).aside.put_by
+    low = subst (λ (b : Bool). AllByRecursion (IsLow (load_one l s).world.history) (cond b (after_offer g s) (after_put_by g s)).aside.put_by) (ap (λ (h : List Slip). is_offered h s) (sym same)) (low_by (is_offered l.world.history s))
+
+mark_going : (o : Origin) (g : Stage) (l : Loading) (s : Slip) → IsGoing g l → IsGoing (marked_by o g s) l
+mark_going OwnFile g l s i = i
+mark_going StoredFile g l s i = record { follows = mark_follows StoredFile g l s i.follows; sound = i.sound; low = i.low }
+
+pub all_going : (g : Stage) (l : Loading) (ts : List Taken) → AllByRecursion IsBlock (slips_taken ts) → IsGoing g l → IsGoing (take_all g ts) (load_all l (slips_taken ts))
+all_going g l [] blocks i = i
+all_going g l (t ∷ ts) blocks i =
+    mark_going t.origin (after_block (take_all g ts) t.slip) (load_one (load_all l (slips_taken ts)) t.slip) t.slip
+    (after_going (take_all g ts) (load_all l (slips_taken ts)) t.slip blocks.0 (all_going g l ts blocks.1 i))
