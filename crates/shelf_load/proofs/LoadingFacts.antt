@@ -1,7 +1,7 @@
 -- What the blocks that were taken leave, as the definition of loading has it.
-use Rattle.std.proofs.Common.{arith, ◌≡◌, ◌≤◌, ℕ, Bool, true, false, cond, List, [], ◌∷◌, ◌++◌, map, Option, Some, None, refl, sym, ap, subst, ◌∙◌, ltb}
+use Rattle.std.proofs.Common.{arith, ◌≡◌, ◌≤◌, ◌&&◌, ℕ, Bool, true, false, not, cond, List, [], ◌∷◌, ◌++◌, map, Option, Some, None, refl, sym, ap, subst, ◌∙◌, ltb}
 use Rattle.std.specs.List.{AllByRecursion}
-use Rattle.std.proofs.lemmas.Bool.{ltb-false}
+use Rattle.std.proofs.lemmas.Bool.{both_ways, ltb-false}
 use Rattle.block_record.specs.declared.blocks.Slip.{Slip}
 use Rattle.chain_model.specs.Ancestry.{IsHistory}
 use Rattle.relay_model.specs.Worlds.{World}
@@ -13,11 +13,14 @@ use Rattle.relay_model.proofs.public.Entries.{tip_rises}
 use Rattle.relay_model.proofs.public.Sound.{offer_grows, offer_keeps}
 use Rattle.block_intake.specs.Intakes.{IsAlike}
 use Rattle.block_intake.proofs.public.AlikeFacts.{answer_alike, judge_alike}
-use Rattle.store_model.specs.Loads.{Loading, first_full, if_full, is_offered, load_all, load_one, offer_one}
+use Rattle.bundle_model.proofs.public.Climbs.{ltb_no}
+use Rattle.store_model.specs.Shown.{Shown}
+use Rattle.store_model.specs.Loads.{Loading, Round, first_full, is_offered, is_wait_full, load_all, load_one, loading_of, offer_one, round_all, round_of, round_one, taken}
 use Rattle.shelf_load.specs.declared.put_by.Origin.{Origin}
 use Rattle.shelf_load.specs.declared.put_by.Origin.TheVariants.{OwnFile, StoredFile}
 use Rattle.shelf_load.specs.Asides.{Put, put, slips_put}
-use Rattle.shelf_load.specs.Taking.{Stage, Taken, after_block, after_offer, after_put_by, marked_by, take_all, take_one}
+use Rattle.shelf_load.specs.Taking.{Stage, Taken, after_block, after_offer, after_put_by, marked_by, stage, take_all, take_one}
+use Rattle.shelf_load.specs.Ending.{offer_round, put_all, put_one, round_at}
 
 -- a world with other blocks stored
 abbrev pub with_stored : List ℕ → World → World
@@ -129,3 +132,95 @@ all_going g l [] blocks i = i
 all_going g l (t ∷ ts) blocks i =
     mark_going t.origin (after_block (take_all g ts) t.slip) (load_one (load_all l (slips_taken ts)) t.slip) t.slip
     (after_going (take_all g ts) (load_all l (slips_taken ts)) t.slip blocks.0 (all_going g l ts blocks.1 i))
+
+-- ---- the last round
+
+-- a round has the world of the definition's, but for what is stored
+pub record RoundFollows (stored : List ℕ) (r q : Round) : Type 0 where
+  pub same : r ≡ record { world = with_stored stored q.world; full = q.full; over = q.over }
+  pub sound : IsSound q.world
+
+-- beside that the tip does not fall
+pub record RoundGoes (stored : List ℕ) (r q after : Round) : Type 0 where
+  pub follows : RoundFollows stored r after
+  pub up : tip_num q.world.history ≤ tip_num after.world.history
+
+offered_round : (x : List ℕ) (q : Round) (s : Slip) → offer_round (record { world = with_stored x q.world; full = q.full; over = q.over }) s
+    ≡ record { world = with_stored x (offered q.world s).world; full = first_full q.full (offered q.world s).answer; over = is_wait_full (offered q.world s).answer }
+offered_round x q s =
+    let w = offer_world x q.world s in
+    let a = offer_answer x q.world s in
+    λ i. record { world = w i; full = first_full q.full (a i); over = is_wait_full (a i) }
+
+round_step : (x : List ℕ) (q : Round) (p : Put) → IsBlock p.slip → IsLow q.world.history p → IsSound q.world
+    → RoundGoes x (put_one (record { world = with_stored x q.world; full = q.full; over = q.over }) p) q (round_one q p.slip)
+round_step x q p block low sound = go (not q.over) (ltb (tip_num q.world.history) p.slip.num) p.kept (λ e. ltb_no (tip_num q.world.history) p.slip.num (low e))
+  where
+    stays : RoundGoes x (record { world = with_stored x q.world; full = q.full; over = q.over }) q q
+    stays = record { follows = record { same = refl; sound = sound }; up = omega arith }
+
+    goes : RoundGoes x (offer_round (record { world = with_stored x q.world; full = q.full; over = q.over }) p.slip) q (record { world = (offered q.world p.slip).world; full = first_full q.full (offered q.world p.slip).answer; over = is_wait_full (offered q.world p.slip).answer })
+    goes = record { follows = record { same = offered_round x q p.slip; sound = offer_keeps q.world p.slip sound block }; up = offer_rises q.world p.slip sound block }
+
+    go : (b t k : Bool) → (k ≡ false → t ≡ false)
+        → RoundGoes x (cond (b && (t && k)) (offer_round (record { world = with_stored x q.world; full = q.full; over = q.over }) p.slip) (record { world = with_stored x q.world; full = q.full; over = q.over })) q
+        (cond (b && t) (record { world = (offered q.world p.slip).world; full = first_full q.full (offered q.world p.slip).answer; over = is_wait_full (offered q.world p.slip).answer }) q)
+    go true true true f = goes
+    go true true false f = absurd (both_ways _ (f refl) refl)
+    go true false k f = stays
+    go false t k f = stays
+
+round_parts : (w v : World) (a b : Option Answer) → w ≡ v → a ≡ b → (let r : Round = record { world = w; full = a; over = false } in r) ≡ record { world = v; full = b; over = false }
+round_parts w v a b e f = λ i. record { world = e i; full = f i; over = false }
+
+pub round_goes : (x : List ℕ) (r q : Round) (puts : List Put) → AllByRecursion IsBlock (slips_put puts) → AllByRecursion (IsLow q.world.history) puts → RoundFollows x r q
+    → RoundGoes x (put_all r puts) q (round_all q (slips_put puts))
+round_goes x r q [] blocks low f = record { follows = f; up = omega arith }
+round_goes x r q (p ∷ earlier) blocks low f =
+    let ih = round_goes x r q earlier blocks.1 low.1 f in
+    let after = round_all q (slips_put earlier) in
+    let here : IsLow after.world.history p = λ e. let l = low.0 e in omega (arith, l, ih.up) in
+    let one = round_step x after p blocks.0 here ih.follows.sound in
+    record {
+      follows = record { same = ap (λ (y : Round). put_one y p) ih.follows.same ∙ one.follows.same; sound = one.follows.sound };
+      up = omega (arith, ih.up, one.up);
+    }
+
+-- what holds of all blocks that were taken holds of those that were put by
+put_one_of : (P : Slip → Type 0) (l : Loading) (s : Slip) → P s → AllByRecursion P l.put_by → AllByRecursion P (load_one l s).put_by
+put_one_of P l s p all = go (is_offered l.world.history s)
+  where
+    go : (b : Bool) → AllByRecursion P (cond b (offer_one l s) (record { world = l.world; put_by = s ∷ l.put_by; full = l.full })).put_by
+    go true = all
+    go false = (p, all)
+
+put_all_of : (P : Slip → Type 0) (l : Loading) (ss : List Slip) → AllByRecursion P ss → AllByRecursion P l.put_by → AllByRecursion P (load_all l ss).put_by
+put_all_of P l [] all puts = puts
+put_all_of P l (s ∷ ss) all puts = put_one_of P (load_all l ss) s all.0 (put_all_of P l ss all.1 puts)
+
+-- blocks that were taken from a world in which nothing was put by, and then offered again: the world is that of the definition, but for what is stored, and the same answer says that the history is full
+pub record LoadsAs (shown : Shown) (w : World) (r : Round) : Type 0 where
+  pub world : r.world ≡ with_stored r.world.stored (round_of shown w).world
+  pub full : r.full ≡ (round_of shown w).full
+
+pub loads_as : (shown : Shown) (w : World) (late : List Slip) (passed : ℕ) (ts : List Taken) → IsSound w → AllByRecursion IsBlock (slips_taken ts) → slips_taken ts ≡ taken shown → (loading_of shown w).full ≡ None
+    → (let g = take_all (stage (record w { size = shown.size }) (record { put_by = []; late = late; passed = passed })) ts in LoadsAs shown w (put_all (round_at g.world) g.aside.put_by))
+loads_as shown w late passed ts sound blocks all room =
+    let w0 : World = record w { size = shown.size } in
+    let g0 : Stage = stage w0 (record { put_by = []; late = late; passed = passed }) in
+    let l0 : Loading = record { world = w0; put_by = []; full = None } in
+    let sound0 : IsSound w0 = record { history = sound.history; agreed = sound.agreed; kind = sound.kind; stored = sound.stored; distinct = sound.distinct; apart = sound.apart; orphans = sound.orphans; above = sound.above; rises = sound.rises } in
+    let i = all_going g0 l0 ts blocks (record { follows = record { world = refl; put_by = refl }; sound = sound0; low = tt }) in
+    let g = take_all g0 ts in
+    let l = load_all l0 (slips_taken ts) in
+    let none : l.full ≡ None = ap (λ (ss : List Slip). (load_all l0 ss).full) all ∙ room in
+    let put_blocks : AllByRecursion IsBlock (slips_put g.aside.put_by) = subst (AllByRecursion IsBlock) (sym i.follows.put_by) (put_all_of IsBlock l0 (slips_taken ts) blocks tt) in
+    let begin : Round = record { world = l.world; full = l.full; over = false } in
+    let first : RoundFollows g.world.stored (round_at g.world) begin = record { same = round_parts g.world (with_stored g.world.stored l.world) None l.full i.follows.world (sym none); sound = i.sound } in
+    let goes = round_goes g.world.stored (round_at g.world) begin g.aside.put_by put_blocks i.low first in
+    let same : put_all (round_at g.world) g.aside.put_by ≡ record { world = with_stored g.world.stored (round_of shown w).world; full = (round_of shown w).full; over = (round_of shown w).over } =
+    goes.follows.same ∙ ap (λ (q : Round). record { world = with_stored g.world.stored q.world; full = q.full; over = q.over }) (ap (round_all begin) i.follows.put_by ∙ ap (λ (ss : List Slip). (let m = load_all l0 ss in round_all (record { world = m.world; full = m.full; over = false }) m.put_by)) all) in
+    record {
+      world = ap (λ (q : Round). q.world) same ∙ ap (λ (x : List ℕ). with_stored x (round_of shown w).world) (sym (ap (λ (q : Round). q.world.stored) same));
+      full = ap (λ (q : Round). q.full) same;
+    }
