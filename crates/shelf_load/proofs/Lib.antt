@@ -5,3 +5,4 @@ mod KeptFacts
 mod LoadingFacts
 mod TakingFacts
 mod EndingFacts
+mod MarkFacts
