@@ -1,12 +1,13 @@
 -- Which blocks are stored while blocks are taken, and once those that came late are.
 use Rattle.std.proofs.Common.{arith, ◌≡◌, ◌<◌, ◌⊎◌, inl, inr, ℕ, Bool, true, false, cond, ◌||◌, List, [], ◌∷◌, ◌++◌, length, reverse, Option, Some, None, refl, sym, ap, subst, ◌∙◌}
-use Rattle.std.specs.List.{AllByRecursion, list_any}
+use Rattle.std.specs.List.{AllByRecursion, filter}
 use Rattle.std.proofs.Math.Dec.{eqb}
 use Rattle.std.proofs.lemmas.Bool.{both_ways, eqb-true, false_from_ne_true}
 use Rattle.block_record.proofs.public.SlipFacts.{same_slip_is}
 use Rattle.block_record.specs.declared.blocks.Slip.{Slip}
 use Rattle.block_record.specs.Slips.{same_slip}
-use Rattle.chain_model.specs.Ancestry.{find_id}
+use Rattle.chain_model.specs.Ancestry.{find_id, IsHistory}
+use Rattle.chain_laws.proofs.public.Lines.{IsHistory-rest, is_fresh}
 use Rattle.relay_model.specs.Worlds.{World}
 use Rattle.relay_model.specs.Offers.{judge, offered}
 use Rattle.relay_model.proofs.public.Judged.{stored_by}
@@ -16,6 +17,8 @@ use Rattle.bundle_model.specs.Plans.{at_places}
 use Rattle.bundle_model.specs.Shedding.{place_in, stored_after, stored_at}
 use Rattle.bundle_model.proofs.public.DoneFacts.{find_is}
 use Rattle.bundle_model.proofs.public.MemberFacts.{among_reverse, reverse_among}
+use Rattle.bundle_model.proofs.public.PlanFacts.{at_places_among}
+use Rattle.bundle_model.proofs.public.RetainedFacts.{id_there}
 use Rattle.bundle_model.proofs.public.StoredFacts.{after_only, after_stays, after_stored, is_one, place_low}
 use Rattle.store_model.specs.Loads.{is_offered}
 use Rattle.shelf_load.specs.declared.put_by.Origin.{Origin}
@@ -171,3 +174,26 @@ ends_marked ss g newest more e m =
           | inr k ↦ after_stored newest g.world.stored (reverse g.aside.late) s there (among_reverse g.aside.late s k)
         ];
     }
+
+-- of a history the blocks at places are those that pass a test, where each that is at one passes it and each that passes it is at one
+pub marked_filter : (p : Slip → Bool) (ps : List ℕ) (xs : List Slip) → IsHistory xs → ((s : Slip) → Among (at_places ps xs) s → p s ≡ true) → ((s : Slip) → Among xs s → p s ≡ true → Among (at_places ps xs) s) → at_places ps xs ≡ filter p xs
+marked_filter p ps [] history only each = refl
+marked_filter p ps (x ∷ xs) history only each =
+    go (is_one ps (length xs)) (p x) refl only each
+    (λ o e. marked_filter p ps xs (IsHistory-rest x xs history) o e)
+  where
+    fresh : Among xs x → ⊥
+    fresh h = both_ways _ (is_fresh x xs history) (id_there xs x h)
+
+    go : (a b : Bool) → p x ≡ b → ((s : Slip) → Among (cond a (x ∷ at_places ps xs) (at_places ps xs)) s → p s ≡ true)
+        → ((s : Slip) → Among (x ∷ xs) s → p s ≡ true → Among (cond a (x ∷ at_places ps xs) (at_places ps xs)) s)
+        → (((s : Slip) → Among (at_places ps xs) s → p s ≡ true) → ((s : Slip) → Among xs s → p s ≡ true → Among (at_places ps xs) s) → at_places ps xs ≡ filter p xs)
+        → cond a (x ∷ at_places ps xs) (at_places ps xs) ≡ cond b (x ∷ filter p xs) (filter p xs)
+    go true true e o h ih =
+        ap (λ (l : List Slip). x ∷ l) (ih (λ s k. o s (inr k)) (λ s k t. elim (h s (inr k) t) [
+          | inl same ↦ absurd (fresh (subst (Among xs) (sym same) k))
+          | inr rest ↦ rest
+        ]))
+    go true false e o h ih = absurd (both_ways _ e (o x (inl refl)))
+    go false true e o h ih = absurd (fresh (at_places_among ps xs x (h x (inl refl) e)))
+    go false false e o h ih = ih o (λ s k t. h s (inr k) t)
