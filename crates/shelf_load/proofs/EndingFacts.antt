@@ -1,19 +1,17 @@
 -- What the last round leaves, what is stored late, and how many blocks are lost.
-use Rattle.std.proofs.Common.{arith, Global, subst, ◌≡◌, ◌<◌, ◌≤◌, ◌+◌, ◌∙◌, ℕ, suc, Bool, true, false, not, cond, ◌&&◌, ◌||◌, List, [], ◌∷◌, ◌++◌, length, map, reverse, take, drop, get_or, Option, Some, None, Ok, Err, Result, refl, sym, ap, ltb}
+use Rattle.std.proofs.Common.{arith, Global, subst, ◌≡◌, ◌<◌, ◌≤◌, ◌+◌, ◌∙◌, ℕ, Bool, true, false, not, cond, ◌&&◌, ◌||◌, List, [], ◌∷◌, ◌++◌, length, map, reverse, take, drop, get_or, Option, Some, None, Ok, Err, Result, refl, sym, ap, ltb}
 use Rattle.std.proofs.lemmas.List.{take_more, take-append-drop, reverse-append, map-append}
-use Rattle.std.proofs.Math.Seq.{drop-cons}
 use Rattle.std.specs.List.{list_any}
 use Rattle.std.specs.Prelude.{IfSome}
 use Rattle.std.specs.declared.sync.Arc.{Arc}
 use Rattle.std.specs.Arc.{arc_value}
 use Rattle.block_record.specs.declared.blocks.Block.{Block}
-use Rattle.block_record.specs.Slips.{slip, same_slip}
+use Rattle.block_record.specs.Slips.{slip}
 use Rattle.relay_model.specs.declared.answers.Conflict.{Conflict as Clash}
 use Rattle.block_record.specs.declared.blocks.Slip.{Slip}
 use Rattle.relay_model.specs.Worlds.{World}
 use Rattle.relay_model.specs.Offers.{Answer, HistoryFull, offered, tip_num}
 use Rattle.bundle_model.specs.Shedding.{place_in, stored_after, stored_at}
-use Rattle.one_block.specs.declared.faults.StoreFault.{StoreFault}
 use Rattle.one_block.specs.declared.faults.StoreFault.TheVariants as store
 use Rattle.shelf_check.specs.declared.faults.LoadFault.{LoadFault}
 use Rattle.shelf_check.specs.declared.faults.LoadFault.TheVariants as fault

@@ -6,3 +6,5 @@ mod LoadingFacts
 mod TakingFacts
 mod EndingFacts
 mod MarkFacts
+mod PlacesFacts
+mod LawFacts

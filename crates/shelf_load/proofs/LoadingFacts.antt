@@ -1,7 +1,8 @@
 -- What the blocks that were taken leave, as the definition of loading has it.
-use Rattle.std.proofs.Common.{arith, ◌≡◌, ◌≤◌, ◌&&◌, ℕ, Bool, true, false, not, cond, List, [], ◌∷◌, ◌++◌, map, Option, Some, None, refl, sym, ap, subst, ◌∙◌, ltb}
+use Rattle.std.proofs.Common.{arith, ◌≡◌, ◌≤◌, ◌&&◌, ℕ, Bool, true, false, not, cond, List, [], ◌∷◌, ◌++◌, Option, None, refl, sym, ap, subst, ◌∙◌, ltb}
 use Rattle.std.specs.List.{AllByRecursion}
 use Rattle.std.proofs.lemmas.Bool.{both_ways, ltb-false}
+use mathlib.Core.List.{IsSuffix, IsSuffix-trans}
 use Rattle.block_record.specs.declared.blocks.Slip.{Slip}
 use Rattle.chain_model.specs.Ancestry.{IsHistory}
 use Rattle.relay_model.specs.Worlds.{World}
@@ -18,13 +19,10 @@ use Rattle.store_model.specs.Shown.{Shown}
 use Rattle.store_model.specs.Loads.{Loading, Round, first_full, is_offered, is_wait_full, load_all, load_one, loading_of, offer_one, round_all, round_of, round_one, taken}
 use Rattle.shelf_load.specs.declared.put_by.Origin.{Origin}
 use Rattle.shelf_load.specs.declared.put_by.Origin.TheVariants.{OwnFile, StoredFile}
-use Rattle.shelf_load.specs.Asides.{Put, put, slips_put}
+use Rattle.shelf_load.specs.Asides.{Put, slips_put}
 use Rattle.shelf_load.specs.Taking.{Stage, Taken, after_block, after_offer, after_put_by, marked_by, stage, take_all, take_one}
-use Rattle.shelf_load.specs.Ending.{offer_round, put_all, put_one, round_at}
-
--- a world with other blocks stored
-abbrev pub with_stored : List ℕ → World → World
-with_stored stored w = record w { stored = stored }
+use Rattle.shelf_load.specs.Ending.{is_again, offer_round, put_all, put_one, round_at}
+use Rattle.shelf_load.specs.LoadLaws.{slips_taken, with_stored}
 
 -- no offer looks at what is stored
 alike : (x : List ℕ) (w : World) → IsAlike (with_stored x w) w
@@ -68,10 +66,6 @@ mark_follows StoredFile g l s f = record { world = ap (λ (w : World). record w 
 
 pub one_follows : (g : Stage) (l : Loading) (t : Taken) → Follows g l → Follows (take_one g t) (load_one l t.slip)
 one_follows g l t f = mark_follows t.origin (after_block g t.slip) (load_one l t.slip) t.slip (after_follows g l t.slip f)
-
--- blocks that were taken one after another
-abbrev pub slips_taken : List Taken → List Slip
-slips_taken ts = map (λ t. t.slip) ts
 
 pub all_follow : (g : Stage) (l : Loading) (ts : List Taken) → Follows g l → Follows (take_all g ts) (load_all l (slips_taken ts))
 all_follow g l [] f = f
@@ -199,12 +193,14 @@ put_all_of P l [] all puts = puts
 put_all_of P l (s ∷ ss) all puts = put_one_of P (load_all l ss) s all.0 (put_all_of P l ss all.1 puts)
 
 -- blocks that were taken from a world in which nothing was put by, and then offered again: the world is that of the definition, but for what is stored, and the same answer says that the history is full
-pub record LoadsAs (shown : Shown) (w : World) (r : Round) : Type 0 where
+pub record LoadsAs (shown : Shown) (w : World) (stored : List ℕ) (r : Round) : Type 0 where
+  pub kept : r.world.stored ≡ stored
+  pub sound : IsSound (round_of shown w).world
   pub world : r.world ≡ with_stored r.world.stored (round_of shown w).world
   pub full : r.full ≡ (round_of shown w).full
 
 pub loads_as : (shown : Shown) (w : World) (late : List Slip) (passed : ℕ) (ts : List Taken) → IsSound w → AllByRecursion IsBlock (slips_taken ts) → slips_taken ts ≡ taken shown → (loading_of shown w).full ≡ None
-    → (let g = take_all (stage (record w { size = shown.size }) (record { put_by = []; late = late; passed = passed })) ts in LoadsAs shown w (put_all (round_at g.world) g.aside.put_by))
+    → (let g = take_all (stage (record w { size = shown.size }) (record { put_by = []; late = late; passed = passed })) ts in LoadsAs shown w g.world.stored (put_all (round_at g.world) g.aside.put_by))
 loads_as shown w late passed ts sound blocks all room =
     let w0 : World = record w { size = shown.size } in
     let g0 : Stage = stage w0 (record { put_by = []; late = late; passed = passed }) in
@@ -220,7 +216,22 @@ loads_as shown w late passed ts sound blocks all room =
     let goes = round_goes g.world.stored (round_at g.world) begin g.aside.put_by put_blocks i.low first in
     let same : put_all (round_at g.world) g.aside.put_by ≡ record { world = with_stored g.world.stored (round_of shown w).world; full = (round_of shown w).full; over = (round_of shown w).over } =
     goes.follows.same ∙ ap (λ (q : Round). record { world = with_stored g.world.stored q.world; full = q.full; over = q.over }) (ap (round_all begin) i.follows.put_by ∙ ap (λ (ss : List Slip). (let m = load_all l0 ss in round_all (record { world = m.world; full = m.full; over = false }) m.put_by)) all) in
+    let ends = ap (round_all begin) i.follows.put_by ∙ ap (λ (ss : List Slip). (let m = load_all l0 ss in round_all (record { world = m.world; full = m.full; over = false }) m.put_by)) all in
     record {
+      kept = ap (λ (q : Round). q.world.stored) same;
+      sound = subst (λ (q : Round). IsSound q.world) ends goes.follows.sound;
       world = ap (λ (q : Round). q.world) same ∙ ap (λ (x : List ℕ). with_stored x (round_of shown w).world) (sym (ap (λ (q : Round). q.world.stored) same));
       full = ap (λ (q : Round). q.full) same;
     }
+
+-- a round adds to the history
+grows_one : (r : Round) (p : Put) → IsSuffix r.world.history (put_one r p).world.history
+grows_one r p = go (not r.over && is_again r.world p)
+  where
+    go : (b : Bool) → IsSuffix r.world.history (cond b (offer_round r p.slip) r).world.history
+    go true = offer_grows r.world p.slip
+    go false = ([], refl)
+
+pub round_grows : (r : Round) (puts : List Put) → IsSuffix r.world.history (put_all r puts).world.history
+round_grows r [] = ([], refl)
+round_grows r (p ∷ earlier) = IsSuffix-trans (round_grows r earlier) (grows_one (put_all r earlier) p)

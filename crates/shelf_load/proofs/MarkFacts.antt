@@ -1,14 +1,12 @@
 -- Which blocks are stored while blocks are taken, and once those that came late are.
-use Rattle.std.proofs.Common.{arith, ◌≡◌, ◌<◌, ◌⊎◌, inl, inr, ℕ, Bool, true, false, cond, ◌||◌, List, [], ◌∷◌, ◌++◌, length, reverse, Option, Some, None, refl, sym, ap, subst, ◌∙◌}
+use Rattle.std.proofs.Common.{arith, ◌≡◌, ◌<◌, ◌⊎◌, inl, inr, ℕ, Bool, true, false, cond, List, [], ◌∷◌, ◌++◌, length, reverse, Option, Some, None, refl, sym, ap, subst, ◌∙◌}
 use Rattle.std.specs.List.{AllByRecursion, filter}
 use Rattle.std.proofs.Math.Dec.{eqb}
 use Rattle.std.proofs.lemmas.Bool.{both_ways, eqb-true, false_from_ne_true}
 use Rattle.block_record.proofs.public.SlipFacts.{same_slip_is}
 use Rattle.block_record.specs.declared.blocks.Slip.{Slip}
-use Rattle.block_record.specs.Slips.{same_slip}
 use Rattle.chain_model.specs.Ancestry.{find_id, IsHistory}
 use Rattle.chain_laws.proofs.public.Lines.{IsHistory-rest, is_fresh}
-use Rattle.relay_model.specs.Worlds.{World}
 use Rattle.relay_model.specs.Offers.{judge, offered}
 use Rattle.relay_model.proofs.public.Judged.{stored_by}
 use Rattle.relay_model.proofs.public.Sound.{offer_grows}
@@ -23,16 +21,8 @@ use Rattle.bundle_model.proofs.public.StoredFacts.{after_only, after_stays, afte
 use Rattle.store_model.specs.Loads.{is_offered}
 use Rattle.shelf_load.specs.declared.put_by.Origin.{Origin}
 use Rattle.shelf_load.specs.declared.put_by.Origin.TheVariants.{OwnFile, StoredFile}
-use Rattle.shelf_load.specs.Taking.{Stage, Taken, after_block, after_offer, after_put_by, is_found, is_in_history, marked, marked_by, take_all, take_one, with_late}
-
--- the blocks of stored files among those that were taken
-abbrev pub slips_by : Origin → Slip → List Slip → List Slip
-slips_by OwnFile s ss = ss
-slips_by StoredFile s ss = s ∷ ss
-
-abbrev pub stored_taken : List Taken → List Slip
-stored_taken [] = []
-stored_taken (t ∷ ts) = slips_by t.origin t.slip (stored_taken ts)
+use Rattle.shelf_load.specs.Taking.{Stage, Taken, after_block, after_offer, after_put_by, is_found, is_in_history, marked, marked_by, take_all, with_late}
+use Rattle.shelf_load.specs.LoadLaws.{slips_by, stored_taken}
 
 -- places below a length
 abbrev pub AreBelow : ℕ → List ℕ → Type 0
@@ -119,17 +109,17 @@ mark_marks : (ss : List Slip) (g : Stage) (s : Slip) → Marks ss g → Marks (s
 mark_marks ss g s m = record {
   low = stored_low g.world.history g.world.stored s m.low;
   only = λ x h. elim (after_only g.world.history g.world.stored (s ∷ []) x h) [
-      | inl k ↦ inr (m.only x k)
-      | inr (inl e) ↦ inl e
-      | inr (inr k) ↦ absurd k
-    ];
+    | inl k ↦ inr (m.only x k)
+    | inr (inl e) ↦ inl e
+    | inr (inr k) ↦ absurd k
+  ];
   each = λ x h. elim h [
-      | inl e ↦ subst (λ (y : Slip). Among (at_places (stored_at g.world.stored (place_in g.world.history s)) g.world.history) y ⊎ Among (with_late (is_in_history g.world.history s) s g.aside.late) y) e (own (is_in_history g.world.history s) refl)
-      | inr k ↦ elim (m.each x k) [
-          | inl there ↦ inl (after_stays g.world.history g.world.stored (s ∷ []) x there)
-          | inr later ↦ inr (kept (is_in_history g.world.history s) x later)
-        ]
-    ];
+    | inl e ↦ subst (λ (y : Slip). Among (at_places (stored_at g.world.stored (place_in g.world.history s)) g.world.history) y ⊎ Among (with_late (is_in_history g.world.history s) s g.aside.late) y) e (own (is_in_history g.world.history s) refl)
+    | inr k ↦ elim (m.each x k) [
+      | inl there ↦ inl (after_stays g.world.history g.world.stored (s ∷ []) x there)
+      | inr later ↦ inr (kept (is_in_history g.world.history s) x later)
+    ]
+  ];
   late = λ x h. late_from (is_in_history g.world.history s) x h;
 }
   where
@@ -166,13 +156,13 @@ ends_marked ss g newest more e m =
     let same : at_places g.world.stored newest ≡ at_places g.world.stored g.world.history = ap (at_places g.world.stored) (sym e) ∙ grown g.world.stored more g.world.history m.low in
     record {
       only = λ s h. elim (after_only newest g.world.stored (reverse g.aside.late) s h) [
-          | inl k ↦ m.only s (subst (λ (l : List Slip). Among l s) same k)
-          | inr k ↦ m.late s (reverse_among g.aside.late s k)
-        ];
+        | inl k ↦ m.only s (subst (λ (l : List Slip). Among l s) same k)
+        | inr k ↦ m.late s (reverse_among g.aside.late s k)
+      ];
       each = λ s there h. elim (m.each s h) [
-          | inl k ↦ after_stays newest g.world.stored (reverse g.aside.late) s (subst (λ (l : List Slip). Among l s) (sym same) k)
-          | inr k ↦ after_stored newest g.world.stored (reverse g.aside.late) s there (among_reverse g.aside.late s k)
-        ];
+        | inl k ↦ after_stays newest g.world.stored (reverse g.aside.late) s (subst (λ (l : List Slip). Among l s) (sym same) k)
+        | inr k ↦ after_stored newest g.world.stored (reverse g.aside.late) s there (among_reverse g.aside.late s k)
+      ];
     }
 
 -- of a history the blocks at places are those that pass a test, where each that is at one passes it and each that passes it is at one

@@ -1,5 +1,5 @@
 -- What a sweep removes, file by file.
-use Rattle.std.proofs.Common.{◌≡◌, ◌+◌, inl, inr, ℕ, Bool, true, false, not, cond, ◌&&◌, ◌||◌, List, [], ◌∷◌, ◌++◌, Option, Some, refl, sym, ◌∙◌, ap, subst, IsTrue}
+use Rattle.std.proofs.Common.{◌≡◌, inl, inr, ℕ, Bool, true, false, not, cond, ◌&&◌, ◌||◌, List, [], ◌∷◌, ◌++◌, Option, Some, refl, sym, ◌∙◌, ap, subst, IsTrue}
 use Rattle.std.specs.Prelude.{codes}
 use Rattle.std.specs.Option.{unwrap_or}
 use Rattle.std.specs.List.{filter, list_any}

@@ -1,5 +1,5 @@
 -- What is made of the answer to an offer, and whether a block is offered.
-use Rattle.std.proofs.Common.{Bor, ◌≡◌, ◌||◌, cond, ℕ, Bool, true, false, List, [], ◌∷◌, length, Option, Some, None, Ok, Err, Result, refl, sym, ap, ◌∙◌}
+use Rattle.std.proofs.Common.{Bor, ◌≡◌, ◌||◌, cond, ℕ, Bool, true, false, List, [], ◌∷◌, length, Option, Some, None, Ok, Err, Result, refl, ap, ◌∙◌}
 use Rattle.std.specs.Option.{is_some, option_copied}
 use Rattle.block_record.specs.declared.blocks.Slip.{Slip}
 use Rattle.chain_model.specs.Ancestry.{find_id, has_id}

@@ -3,3 +3,4 @@ pub mod Sweeps
 pub mod Asides
 pub mod Taking
 pub mod Ending
+pub mod LoadLaws

@@ -1,5 +1,5 @@
 -- What is kept while a shelf is loaded, and what each block that is taken does to it.
-use Rattle.std.specs.Prelude.{ℕ, ◌≡◌, ◌+◌, ◌⊎◌, IsTrue, Bool, true, false, nat_lt, List, [], ◌∷◌, if◌then◌else◌, Option, None, Some, Result, Ok, Err, ⊤}
+use Rattle.std.specs.Prelude.{ℕ, ◌≡◌, ◌+◌, IsTrue, Bool, false, nat_lt, List, [], ◌∷◌, if◌then◌else◌, Option, None, Some, Result, Ok, Err, ⊤}
 use Rattle.block_record.specs.declared.blocks.Slip.{Slip}
 use Rattle.block_record.specs.Slips.{same_slip}
 use Rattle.chain_model.specs.Ancestry.{find_id}
@@ -7,15 +7,11 @@ use Rattle.dbin_file.specs.Contents.{told}
 use Rattle.relay_model.specs.Worlds.{World}
 use Rattle.relay_model.specs.Offers.{Answer, Closed, Duplicate, Conflict, Early, Stale, WaitFull, Waiting, HistoryFull, Admitted, offered, tip_num}
 use Rattle.bundle_model.specs.Shedding.{place_in, stored_at}
-use Rattle.one_block.specs.declared.faults.StoreFault.{StoreFault}
 use Rattle.one_block.specs.declared.faults.StoreFault.TheVariants as store
 use Rattle.shelf_check.specs.declared.faults.LoadFault.{LoadFault}
 use Rattle.shelf_check.specs.declared.faults.LoadFault.TheVariants as fault
 use Rattle.store_model.specs.Loads.{is_offered, if_full}
 use Rattle.shelf_load.specs.Asides.{Aside, put}
-use Rattle.block_intake.specs.Answers.{is_mem}
-use Rattle.block_intake.specs.declared.answers.Offered.{Offered}
-use Rattle.block_intake.specs.declared.answers.OfferFault.{OfferFault}
 use Rattle.shelf_load.specs.declared.put_by.Origin.{Origin}
 use Rattle.shelf_load.specs.declared.put_by.Origin.TheVariants.{OwnFile, StoredFile}
 

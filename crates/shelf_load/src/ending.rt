@@ -69,7 +69,8 @@ fn find_full(answer: Result<Offered, OfferFault>) -> Result<bool, LoadFault>
 /// Counts those of these blocks as stored that are in the history.
 pub(crate) fn store_late(relay: &mut Relay, late: &[Slip])
     ensures { world_told relay.new ≡ record (world_told relay.old) {
-        stored = stored_after (world_told relay.old).history (world_told relay.old).stored late.now } }
+      stored = stored_after (world_told relay.old).history (world_told relay.old).stored late.now;
+    } }
 {
     for slip in late {
         relay.store(SlipRef::of_slip(slip));
@@ -109,7 +110,5 @@ fn is_noted(relay: &Relay, slip: &Slip) -> bool
 fn has_offered(conflicts: &[Conflict], slip: &Slip) -> bool
     ensures { result ≡ noted_in conflicts.now slip.now }
 {
-    conflicts
-        .iter()
-        .any(|conflict| conflict.offered == *slip)
+    conflicts.iter().any(|conflict| conflict.offered == *slip)
 }

@@ -1,8 +1,7 @@
-use Rattle.std.proofs.Common.{arith, ap, sym, subst, ◌≡◌, ◌∙◌, false}
+use Rattle.std.proofs.Common.{arith, ap, sym, subst, ◌≡◌, ◌∙◌}
 use Rattle.std.specs.Option.{is_some}
 use Rattle.std.specs.Arc.{arc_value}
 use Rattle.std.proofs.lemmas.Bool.{lt-ltb}
-use Rattle.block_record.specs.declared.blocks.Block.{Block}
 use Rattle.block_record.specs.declared.blocks.Slip.{Slip}
 use Rattle.block_record.specs.Slips.{slip}
 use Rattle.block_intake.specs.Answers.{is_mem}

@@ -1,4 +1,4 @@
-use Rattle.std.proofs.Common.{◌≡◌, List, ◌∙◌, sym, ap}
+use Rattle.std.proofs.Common.{List, ◌∙◌, ap}
 use Rattle.block_record.specs.declared.blocks.Slip.{Slip}
 use Rattle.chain_model.specs.Ancestry.{find_id}
 use Rattle.block_relay.specs.Chronicle.{world_told}
