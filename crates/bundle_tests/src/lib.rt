@@ -1,0 +1,5 @@
+//! Tests of bundle_merger over a relay and shelves in memory.
+#![tactic(auto)]
+
+#[cfg(test)]
+mod merges;
