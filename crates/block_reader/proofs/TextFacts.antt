@@ -1,0 +1,44 @@
+-- The file of a block holds the block.
+use Rattle.std.proofs.Common.{◌≡◌, ◌<◌, ◌^◌, ℕ, List, [], ◌∷◌, ◌++◌, length, Option, Some, None, refl, sym, ◌∙◌, ap, subst, inl, inr}
+use Rattle.std.proofs.lemmas.List.{append-nil}
+use Rattle.block_record.specs.declared.blocks.Block.{Block}
+use Rattle.block_record.specs.declared.blocks.Kind.{Kind}
+use Rattle.block_record.specs.Texts.{IsTypeName}
+use Rattle.block_record.specs.Records.{IsRecordable, IsRecordText, record_text}
+use Rattle.block_record.proofs.public.RecordFacts.{one_record}
+use Rattle.block_record.proofs.public.RecordSizes.{record_small}
+use Rattle.dbin_file.specs.declared.faults.DbinFault.{DbinFault}
+use Rattle.dbin_file.specs.Contents.{Contents, contents, container_text}
+use Rattle.dbin_file.specs.Header.{first_of, header_text}
+use Rattle.dbin_file.specs.Messages.{message_text}
+use Rattle.dbin_file.specs.Laws.{ContainerIsRead}
+use Rattle.dbin_file.specs.Reader.{cut_fault, kept, end_fault, state_after}
+use Rattle.dbin_file.specs.Contents.{place}
+use Rattle.one_block.specs.Containers.{container_fault, IsRecordOf}
+use Rattle.one_block.specs.Heads.{HoldsBlocks, AreRecordsOf}
+use Rattle.one_block.specs.OneFiles.{one_file_text}
+
+own_record : (b : Block) → IsRecordable b → IsRecordOf (record_text b) b
+own_record b r = record { text = inl refl; recordable = r; only = λ other o is. one_record (record_text b) other b o r is (inl refl) }
+
+-- what is read whole has no fault at its end
+no_fault : (total : ℕ) (c : Contents) (block_type : List ℕ) → c.block_type ≡ Some block_type → c.rest ≡ [] → c.fault ≡ None
+    → first_of (c.fault ∷ cut_fault c.block_type (place total c.rest) (kept c.fault c.rest) ∷ []) ≡ None
+no_fault total c block_type typed rest fault = rw (typed, rest, fault) refl
+
+pub file_holds : ContainerIsRead → (kind : Kind) (b : Block) → IsTypeName kind.block_type → IsRecordable b → HoldsBlocks (one_file_text kind b) kind.block_type (b ∷ [])
+file_holds law kind b named r =
+    let text : List ℕ = one_file_text kind b in
+    let c = law kind.block_type (record_text b ∷ []) named (record_small b r, tt) in
+    record {
+      typed = c.type_is;
+      records = record { records = subst (λ (ms : List (List ℕ)). AreRecordsOf ms (b ∷ [])) (sym c.messages_are) (own_record b r, tt) };
+      whole = no_fault (length text) (contents text) kind.block_type c.type_is c.rest c.fault;
+    }
+
+-- a header and one message are a container of that message
+pub one_message : (block_type only head shown message kept whole : List ℕ) → head ≡ header_text block_type → shown ≡ only → message ≡ message_text shown → kept ≡ message → whole ≡ head ++ kept
+    → whole ≡ container_text block_type (only ∷ [])
+one_message block_type only head shown message kept whole head_is shown_is message_is kept_is whole_is =
+    whole_is ∙ ap (λ (l : List ℕ). l ++ kept) head_is
+    ∙ ap (λ (l : List ℕ). header_text block_type ++ l) (kept_is ∙ message_is ∙ ap message_text shown_is ∙ sym (append-nil (message_text only)))
