@@ -1,7 +1,6 @@
 -- Changes one after another, and what stands where they were stopped.
-use Rattle.std.proofs.Common.{◌≡◌, ℕ, Bool, true, false, cond, not, List, [], ◌∷◌, ◌++◌, map, filter, take, Option, Some, None, refl, sym, ◌∙◌, ap, subst, inl, inr}
-use Rattle.std.specs.List.{AllByRecursion, IsDistinct, slice_get}
-use Rattle.std.specs.Str.{bytes_eq}
+use Rattle.std.proofs.Common.{◌≡◌, ℕ, Bool, true, false, cond, List, [], ◌∷◌, ◌++◌, map, Option, Some, refl, sym, ◌∙◌, ap, subst, inl, inr}
+use Rattle.std.specs.List.{IsDistinct, slice_get}
 use Rattle.std.proofs.lemmas.List.{append_assoc}
 use Rattle.std.specs.Prelude.{Result, Ok, Err, OnErr}
 use Rattle.outer_world.specs.Files.{Files}
@@ -15,7 +14,7 @@ use Rattle.block_intake.specs.declared.answers.OfferFault.{OfferFault}
 use Rattle.relay_model.specs.Worlds.{World}
 use Rattle.block_reader.specs.declared.own.OwnFile.{OwnFile}
 use Rattle.block_reader.specs.Own.{same_own, without_own}
-use Rattle.block_reader.specs.Changes.{Shelved, shelved, Change, Write, Remove, changed, begun, changed_all, IsTried, IsStopped, is_swept, is_swept_at, swept_changes, sweep_changes, changes_at, removal_of, next_place, own_changes, written_changes, refusal_changes, all_changes}
+use Rattle.block_reader.specs.Changes.{Shelved, shelved, Change, Write, Remove, changed, changed_all, IsTried, IsStopped, is_swept, is_swept_at, swept_changes, sweep_changes, changes_at, removal_of, next_place, own_changes, written_changes, refusal_changes, all_changes}
 use Rattle.block_reader.proofs.OwnFacts.{all_other}
 use Rattle.outer_world.proofs.public.FileFacts.{same_name}
 

@@ -1,5 +1,5 @@
 -- A block that is passed over or refused for a conflict is held nowhere, and nothing that is held changes.
-use Rattle.std.proofs.Common.{◌≡◌, ◌⊎◌, inl, inr, ℕ, Bool, true, false, List, refl, sym, ◌∙◌, ap, subst}
+use Rattle.std.proofs.Common.{◌≡◌, ◌⊎◌, Bool, true, false, refl, subst}
 use Rattle.std.specs.Prelude.{⊤}
 use Rattle.block_record.specs.declared.blocks.Slip.{Slip}
 use Rattle.relay_model.specs.Worlds.{World}

@@ -4,9 +4,7 @@ use Rattle.std.specs.Prelude.{⊤, codes}
 use Rattle.std.specs.List.{AllByRecursion, IsDistinct}
 use Rattle.std.specs.Str.{bytes_eq}
 use Rattle.std.proofs.lemmas.Slice.Eq.{bytes_eq-Decides}
-use Rattle.std.proofs.lemmas.Bool.{both_ways}
 use Rattle.block_record.specs.declared.blocks.Block.{Block}
-use Rattle.block_record.specs.declared.blocks.Slip.{Slip}
 use Rattle.block_record.specs.Slips.{slip}
 use Rattle.outer_world.specs.Files.{Files, file_at, with_file, without_file, is_in}
 use Rattle.outer_world.specs.Shelves.{told_with, told_without}
@@ -14,7 +12,6 @@ use Rattle.outer_world.proofs.public.FileFacts.{file_at-with_other, file_at-with
 use Rattle.one_block.specs.Heads.{HoldsBlocks}
 use Rattle.relay_model.specs.Worlds.{World}
 use Rattle.relay_model.specs.Soundness.{IsSound}
-use Rattle.bundle_model.specs.Members.{Among}
 use Rattle.bundle_model.specs.Shedding.{may_sweep}
 use Rattle.bundle_model.proofs.public.MemberFacts.{among_all, all_among, filter_among}
 use Rattle.store_files.specs.Kept.{IsWholeKept}

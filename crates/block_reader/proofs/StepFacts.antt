@@ -1,5 +1,5 @@
 -- The steps of taking a block, put together.
-use Rattle.std.proofs.Common.{arith, ◌≡◌, ◌≤◌, inl, inr, ℕ, Bool, true, false, List, Option, refl, sym, ◌∙◌, ap, subst}
+use Rattle.std.proofs.Common.{arith, ◌≡◌, ◌≤◌, inl, inr, ℕ, true, false, List, Option, refl, ◌∙◌, ap, subst}
 use Rattle.std.specs.Prelude.{◌++◌, Result, Ok, Err}
 use Rattle.block_record.specs.declared.blocks.Block.{Block}
 use Rattle.block_record.specs.declared.blocks.Kind.{Kind}
@@ -10,7 +10,6 @@ use Rattle.outer_world.specs.declared.shelves.ShelfFail.{ShelfFail}
 use Rattle.outer_world.specs.declared.shelves.ShelfFail.TheVariants as fail
 use Rattle.one_block.specs.declared.faults.Put.{Put}
 use Rattle.one_block.specs.declared.faults.StoreFault.{StoreFault}
-use Rattle.one_block.specs.declared.faults.StoreFault.TheVariants as store
 use Rattle.one_block.specs.Names.{own_file}
 use Rattle.one_block.specs.OneFiles.{one_file_text}
 use Rattle.one_block.specs.Puts.{PutDone, PutRefused}
@@ -22,11 +21,10 @@ use Rattle.block_relay.specs.Chronicle.{Told, world_told}
 use Rattle.relay_model.specs.Chronicles.{added}
 use Rattle.relay_model.specs.Offers.{offered}
 use Rattle.block_reader.specs.declared.own.OwnFile.{OwnFile}
-use Rattle.block_reader.specs.declared.faults.TakeFault.{TakeFault}
 use Rattle.block_reader.specs.declared.faults.TakeFault.TheVariants.{Offer, Store}
 use Rattle.block_reader.specs.Own.{own_by, with_own}
-use Rattle.block_reader.specs.Changes.{Shelved, shelved, Change, changed_all, IsStopped, all_changes, refused_file}
-use Rattle.block_reader.specs.Takes.{IsOffered, IsPut, IsPlaced, IsUnput, IsCutOff, IsTaken, answer_changes}
+use Rattle.block_reader.specs.Changes.{shelved, Change, changed_all, IsStopped, all_changes, refused_file}
+use Rattle.block_reader.specs.Takes.{IsOffered, IsPut, IsPlaced, IsTaken, answer_changes}
 
 -- a count that had risen later has risen
 later_refuses : (f : ShelfFail) (a b c : ℕ) → a ≤ b → RefusesBy f b c → RefusesBy f a c

@@ -1,6 +1,6 @@
 -- What taking a block keeps, whatever it is answered.
-use Rattle.std.proofs.Common.{◌≡◌, ◌⊎◌, inl, inr, ℕ, Bool, true, false, not, cond, ◌||◌, List, [], ◌∷◌, ◌++◌, filter, Option, Some, None, refl, sym, ◌∙◌, ap, subst, IsTrue}
-use Rattle.std.specs.Prelude.{⊤, codes, Result, Ok, Err}
+use Rattle.std.proofs.Common.{◌≡◌, inl, inr, ℕ, Bool, true, false, not, cond, ◌||◌, List, [], ◌∷◌, ◌++◌, Option, Some, None, refl, sym, ◌∙◌, ap, subst}
+use Rattle.std.specs.Prelude.{codes, Result, Ok, Err}
 use Rattle.std.specs.List.{AllByRecursion, IsDistinct}
 use Rattle.std.specs.Str.{bytes_eq}
 use Rattle.std.proofs.lemmas.Slice.Eq.{bytes_eq-Decides}
@@ -9,7 +9,7 @@ use Rattle.block_record.specs.declared.blocks.Kind.{Kind}
 use Rattle.block_record.specs.declared.blocks.Slip.{Slip}
 use Rattle.block_record.specs.Slips.{slip}
 use Rattle.block_record.specs.Texts.{IsReaderName}
-use Rattle.outer_world.specs.Files.{Files, file_at, with_file, is_in}
+use Rattle.outer_world.specs.Files.{Files, with_file, is_in}
 use Rattle.outer_world.proofs.public.FileFacts.{file_at-with_other}
 use Rattle.one_block.specs.declared.faults.Put.{Put}
 use Rattle.one_block.specs.declared.faults.Put.TheVariants.{Written, Present}
@@ -33,11 +33,11 @@ use Rattle.block_reader.specs.declared.own.OwnFile.{OwnFile}
 use Rattle.block_reader.specs.declared.faults.TakeFault.{TakeFault}
 use Rattle.block_reader.specs.declared.faults.TakeFault.TheVariants.{Offer, Store}
 use Rattle.block_reader.specs.Own.{same_own, has_own, own_by, with_own, without_own}
-use Rattle.block_reader.specs.Changes.{Shelved, shelved, Change, Write, Remove, changed, changed_all, IsStopped, own_changes, written_changes, refusal_changes, sweep_changes, all_changes, refused_file}
+use Rattle.block_reader.specs.Changes.{Shelved, shelved, Change, Write, Remove, changed, changed_all, IsStopped, own_changes, written_changes, sweep_changes, refused_file}
 use Rattle.block_reader.specs.Kept.{AreOwn, KeepsTold}
-use Rattle.block_reader.specs.Takes.{IfAnswered, IfStore, IsOffered, IsPut, IsPlaced, IsUnput, IsCutOff, IsRefused, IsTaken, answer_changes}
+use Rattle.block_reader.specs.Takes.{IfAnswered, IfStore, IsOffered, IsPut, IsPlaced, IsCutOff, IsRefused, IsTaken, answer_changes}
 use Rattle.block_reader.proofs.HeldFacts.{IsPast, IsApart, past_apart}
-use Rattle.block_reader.proofs.KeptFacts.{IsOutside, IsSafe, AreSafe, IsRemovable, apart_names, all_own, stopped_own, all_kept, stopped_kept, swept_safe, swept_outside, safe_append}
+use Rattle.block_reader.proofs.KeptFacts.{IsOutside, AreSafe, IsRemovable, apart_names, all_own, stopped_own, all_kept, stopped_kept, swept_safe, swept_outside, safe_append}
 use Rattle.block_reader.proofs.PutFacts.{IsThere, ThereTold, own_inside, put_there, put_own, put_kept, unput_kept, unput_own, offer_kept}
 
 -- ---- names stay apart

@@ -1,20 +1,19 @@
 -- The file of a block holds the block.
-use Rattle.std.proofs.Common.{◌≡◌, ◌<◌, ◌^◌, ℕ, List, [], ◌∷◌, ◌++◌, length, Option, Some, None, refl, sym, ◌∙◌, ap, subst, inl, inr}
+use Rattle.std.proofs.Common.{◌≡◌, ℕ, List, [], ◌∷◌, ◌++◌, length, Some, None, refl, sym, ◌∙◌, ap, subst, inl}
 use Rattle.std.proofs.lemmas.List.{append-nil}
 use Rattle.block_record.specs.declared.blocks.Block.{Block}
 use Rattle.block_record.specs.declared.blocks.Kind.{Kind}
 use Rattle.block_record.specs.Texts.{IsTypeName}
-use Rattle.block_record.specs.Records.{IsRecordable, IsRecordText, record_text}
+use Rattle.block_record.specs.Records.{IsRecordable, record_text}
 use Rattle.block_record.proofs.public.RecordFacts.{one_record}
 use Rattle.block_record.proofs.public.RecordSizes.{record_small}
-use Rattle.dbin_file.specs.declared.faults.DbinFault.{DbinFault}
 use Rattle.dbin_file.specs.Contents.{Contents, contents, container_text}
 use Rattle.dbin_file.specs.Header.{first_of, header_text}
 use Rattle.dbin_file.specs.Messages.{message_text}
 use Rattle.dbin_file.specs.Laws.{ContainerIsRead}
-use Rattle.dbin_file.specs.Reader.{cut_fault, kept, end_fault, state_after}
+use Rattle.dbin_file.specs.Reader.{cut_fault, kept}
 use Rattle.dbin_file.specs.Contents.{place}
-use Rattle.one_block.specs.Containers.{container_fault, IsRecordOf}
+use Rattle.one_block.specs.Containers.{IsRecordOf}
 use Rattle.one_block.specs.Heads.{HoldsBlocks, AreRecordsOf}
 use Rattle.one_block.specs.OneFiles.{one_file_text}
 

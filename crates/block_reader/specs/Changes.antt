@@ -1,5 +1,5 @@
 -- What is done to the files of a shelf, one change after another, and to the own files of a reader beside them.
-use Rattle.std.specs.Prelude.{ℕ, ◌≡◌, ◌⊎◌, ◌+◌, Bool, false, true, List, [], ◌∷◌, ◌++◌, map, take, filter, codes, slice_get, if◌then◌else◌, Option, None, Some, Result, Ok, Err}
+use Rattle.std.specs.Prelude.{ℕ, ◌≡◌, ◌⊎◌, ◌+◌, Bool, false, List, [], ◌∷◌, ◌++◌, map, take, filter, codes, slice_get, if◌then◌else◌, Option, None, Some, Result, Ok, Err}
 use Rattle.block_record.specs.declared.blocks.Slip.{Slip}
 use Rattle.outer_world.specs.Files.{Files}
 use Rattle.outer_world.specs.Shelves.{told_with, told_without}
