@@ -34,10 +34,3 @@ file_holds law kind b named r =
       records = record { records = subst (λ (ms : List (List ℕ)). AreRecordsOf ms (b ∷ [])) (sym c.messages_are) (own_record b r, tt) };
       whole = no_fault (length text) (contents text) kind.block_type c.type_is c.rest c.fault;
     }
-
--- a header and one message are a container of that message
-pub one_message : (block_type only head shown message kept whole : List ℕ) → head ≡ header_text block_type → shown ≡ only → message ≡ message_text shown → kept ≡ message → whole ≡ head ++ kept
-    → whole ≡ container_text block_type (only ∷ [])
-one_message block_type only head shown message kept whole head_is shown_is message_is kept_is whole_is =
-    whole_is ∙ ap (λ (l : List ℕ). l ++ kept) head_is
-    ∙ ap (λ (l : List ℕ). header_text block_type ++ l) (kept_is ∙ message_is ∙ ap message_text shown_is ∙ sym (append-nil (message_text only)))

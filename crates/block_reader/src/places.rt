@@ -7,10 +7,9 @@ ghost use Rattle.block_reader.specs.Changes.{IsStopped, IsTried, Remove, changed
 
 use crate::names::BlockNames;
 use crate::own::OwnFiles;
-use block_record::{Block, Kind, encode};
+use block_record::{Block, Kind};
 use block_relay::{OfferFault, Offered};
-use dbin_file::{header, message};
-use one_block::Put;
+use one_block::{Put, one_file};
 use outer_world::{FileName, Shelf, ShelfFail, write_file};
 use std::alloc::{AllocError, Global};
 
@@ -78,21 +77,10 @@ fn refuse_file<S: Shelf>(
         (shelved (S.files shelf.old) own.old) (shelved (S.files shelf.new) own.new)) }
     ensures cause { HasShelfCause (S.shelf_faults shelf.old) (S.shelf_faults shelf.new) result }
 {
-    let text = file_text(alloc, block, kind)?;
+    let text = one_file(alloc, block, kind)?;
     write_file(shelf, &names.refused, text.as_slice())?;
     drop_file(shelf, own, &names.one)?;
     Ok(())
-}
-
-/// The text of the block's file: a container with the block's record.
-fn file_text(alloc: Global, block: &Block, kind: &Kind) -> Result<Vec<u8>, AllocError>
-    ensures { IfOk result (λ text. text.items ≡ one_file_text kind.now block.now) }
-{
-    let record = encode(alloc, block)?;
-    let mut text = header(alloc, &kind.block_type)?;
-    let only = message(alloc, record.as_slice())?;
-    text.extend_from_slice(only.as_slice())?;
-    Ok(text)
 }
 
 /// Removes a file of `one/`. It is one of the own files no more, before its removal is tried.

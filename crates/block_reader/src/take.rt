@@ -3,7 +3,6 @@
 ghost use Rattle.std.specs.Prelude.{◌≡◌, ◌≤◌, [], ◌∷◌, IfOk, OnErr, OnOk};
 ghost use Rattle.std.specs.Arc.{arc_value};
 ghost use Rattle.std.specs.List.{IsDistinct};
-ghost use Rattle.block_record.specs.Records.{IsRecordable};
 ghost use Rattle.block_record.specs.Slips.{slip as slip_so};
 ghost use Rattle.block_record.specs.Texts.{IsReaderName};
 ghost use Rattle.outer_world.specs.Shelves.{HasShelfCause};
@@ -21,7 +20,7 @@ use crate::own::OwnFiles;
 use crate::places::place_file;
 use crate::puts::put_noted;
 use crate::sweeps::sweep_oldest;
-use block_record::{Block, Kind, ReaderName};
+use block_record::{Block, Kind, ReaderName, show_recordable};
 use block_relay::{OfferFault, Offered, Relay};
 use dbin_file::container_is_read;
 use one_block::Put;
@@ -79,17 +78,6 @@ fn show_file(block: &Block, kind: &Kind, reader: &ReaderName)
     show_recordable(block);
     let _type = kind.block_type.as_bytes();
     let _reader = reader.as_bytes();
-}
-
-/// Nothing but that the block has a record: its ids are ids, and its numbers have 64 bits.
-fn show_recordable(block: &Block)
-    ensures { IsRecordable block.now }
-{
-    let _num = block.num;
-    let _lib_num = block.lib_num;
-    let _time = block.time;
-    let _id = block.id.as_bytes();
-    let _parent_id = block.parent_id.as_bytes();
 }
 
 /// Takes the block, step by step.

@@ -21,6 +21,6 @@ pub use faults::RecordFault;
 pub use ids::{Id, is_id};
 pub use numbers::read_number;
 pub use readers::ReaderName;
-pub use records::{decode, encode, encode_old, push_record};
+pub use records::{decode, encode, encode_old, push_record, show_recordable};
 pub use slip_refs::SlipRef;
 pub use types::{TypeName, is_type_name};

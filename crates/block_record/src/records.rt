@@ -92,6 +92,17 @@ fn version_byte(form: Form) -> u8
     }
 }
 
+/// Nothing but what each block has: its ids are ids, and its numbers have 64 bits.
+pub fn show_recordable(block: &Block)
+    ensures { IsRecordable block.now }
+{
+    let _num = block.num;
+    let _lib_num = block.lib_num;
+    let _time = block.time;
+    let _id = block.id.as_bytes();
+    let _parent_id = block.parent_id.as_bytes();
+}
+
 /// The block of a record of either form, with its payload's digest.
 pub fn decode(alloc: Global, bytes: &[u8]) -> Result<Block, RecordFault>
     // What is decoded is a record of the block, and each block's records are decoded as that block.

@@ -2,12 +2,11 @@
 
 ghost use Rattle.std.specs.Prelude.{◌≡◌, ◌≢◌, ◌≤◌, ◌||◌, ◌++◌, [], length, nat_lt, IfOk, OnOk};
 ghost use Rattle.std.specs.Option.{is_some, option_map, unwrap_or};
-ghost use Rattle.block_record.specs.Records.{IsRecordable};
 ghost use Rattle.dbin_file.specs.Contents.{contents, told};
 ghost use Rattle.dbin_file.specs.Reader.{state_after};
 ghost use Rattle.one_block.specs.Containers.{HasContents, IsRead, fault_place as place_of_fault};
 
-use block_record::{Block, Bytes, RecordFault, TypeName, decode};
+use block_record::{Block, Bytes, RecordFault, TypeName, decode, show_recordable};
 use dbin_file::{DbinFault, DbinReader};
 use std::alloc::{AllocError, Global};
 
@@ -123,15 +122,4 @@ pub fn read_record(alloc: Global, bytes: &[u8]) -> Result<Block, RecordFault>
     let block = decode(alloc, bytes)?;
     show_recordable(&block);
     Ok(block)
-}
-
-/// Nothing but what each block has: its ids are ids, and its numbers have 64 bits.
-fn show_recordable(block: &Block)
-    ensures { IsRecordable block.now }
-{
-    let _num = block.num;
-    let _lib_num = block.lib_num;
-    let _time = block.time;
-    let _id = block.id.as_bytes();
-    let _parent_id = block.parent_id.as_bytes();
 }

@@ -29,6 +29,6 @@ pub use laws::{files_are_read, layouts_are_read, names_are_read};
 pub use layout::{layout_name, read_layout, size_text};
 pub use names::{NameParts, name_of};
 pub use parse::parse_name;
-pub use put::put_block;
+pub use put::{one_file, put_block};
 pub use read::read_filled;
 pub use singles::{SingleRead, read_block, read_single};

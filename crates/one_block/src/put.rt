@@ -84,7 +84,7 @@ fn copy_reader(reader: &ReaderName) -> Result<ReaderName, AllocError>
 }
 
 /// The text of the block's own file: a container with the block's record.
-fn one_file(alloc: Global, block: &Block, kind: &Kind) -> Result<Vec<u8>, AllocError>
+pub fn one_file(alloc: Global, block: &Block, kind: &Kind) -> Result<Vec<u8>, AllocError>
     ensures { IfOk result (λ text. text.items ≡ one_file_text kind.now block.now) }
 {
     let record = encode(alloc, block)?;

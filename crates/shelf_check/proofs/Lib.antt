@@ -1,3 +1,4 @@
+pub mod public
 mod ListFacts
 mod BundleFacts
 mod RefusalFacts
@@ -5,6 +6,5 @@ mod FolderFacts
 mod MergedFacts
 mod ShelfFacts
 mod LawFacts
-mod SortedFacts
 mod WholeFacts
 mod NamedFacts

@@ -38,7 +38,7 @@ use Rattle.shelf_check.specs.Shelf.{report_of, IsGood, IsFirstFault, CheckAnswer
 use Rattle.one_block.proofs.public.RecordFacts.{same_blocks}
 use Rattle.shelf_check.proofs.LawFacts.{taken_bundle, taken_single}
 use Rattle.shelf_check.proofs.ListFacts.{first_same, rest_same, map_turned, Split, split_at}
-use Rattle.shelf_check.proofs.SortedFacts.{sorted_same}
+use Rattle.shelf_check.proofs.public.SortedFacts.{sorted_same}
 
 -- ---- texts and what they hold
 

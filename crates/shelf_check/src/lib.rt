@@ -11,6 +11,8 @@ mod singles;
 
 pub use bundles::{BundleRead, check_bundle};
 pub use check::{Report, check_shelf};
-pub use faults::{LoadFault, ReadFault, with_name};
+pub use faults::{LoadFault, ReadFault, bad_file, with_name};
+pub use folders::{folder_text, read_text};
 pub use laws::good_files_are_taken;
+pub use merged::{add_entry, based_entries};
 pub use singles::check_single;

@@ -38,14 +38,14 @@ pub fn check_merged<S: Shelf>(
 {
     let mut names = Vec::new(alloc);
     shelf.list(alloc, merged_folder(size), &mut names)?;
-    let mut entries = based(alloc, size, names.as_slice())?;
+    let mut entries = based_entries(alloc, size, names.as_slice())?;
     entries.sort_unstable();
     let read = check_entries(alloc, shelf, size, entries.as_slice())?;
     Ok((entries.len() as u64, read))
 }
 
 /// The names with their bases.
-fn based(alloc: Global, size: u64, names: &[FileName]) -> Result<Vec<(u64, FileName)>, LoadFault>
+pub fn based_entries(alloc: Global, size: u64, names: &[FileName]) -> Result<Vec<(u64, FileName)>, LoadFault>
     requires { IsSize size }
     ensures { EntriesAnswer size names.now result }
 {
@@ -60,7 +60,7 @@ fn based(alloc: Global, size: u64, names: &[FileName]) -> Result<Vec<(u64, FileN
 }
 
 /// Adds a base and a copy of a name.
-fn add_entry(
+pub fn add_entry(
     alloc: Global,
     base: u64,
     name: &FileName,

@@ -18,7 +18,7 @@ use Rattle.shelf_load.specs.Ending.{round_at}
 use Rattle.shelf_load.specs.LoadLaws.{TakingIsLoading, all_taken, nothing, offered_again, stored_taken, with_stored}
 use Rattle.shelf_load.proofs.LoadingFacts.{loads_as, round_grows}
 use Rattle.shelf_load.proofs.MarkFacts.{AreBelow, AreMarked, Marks, all_marks, ends_marked, marked_filter}
-use Rattle.shelf_load.proofs.PlacesFacts.{places_filter}
+use Rattle.store_model.proofs.public.PlacesFacts.{places_filter}
 
 -- nothing is marked in an empty world
 begins : (shown : Shown) (w : World) → IsEmpty w → Marks [] (stage (record w { size = shown.size }) nothing)

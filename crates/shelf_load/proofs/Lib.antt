@@ -6,5 +6,4 @@ mod LoadingFacts
 mod TakingFacts
 mod EndingFacts
 mod MarkFacts
-mod PlacesFacts
 mod LawFacts

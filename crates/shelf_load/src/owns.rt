@@ -1,13 +1,12 @@
 //! The files of `one/`, each read for the slip of its block.
 
-ghost use Rattle.std.specs.Prelude.{◌≡◌, ◌≤◌, IfOk};
-ghost use Rattle.outer_world.specs.Shelves.{HasShelfCause};
-ghost use Rattle.file_reader.specs.Reading.{HasText};
+ghost use Rattle.std.specs.Prelude.{◌≡◌, ◌≤◌};
 ghost use Rattle.shelf_load.specs.Owns.{IsNamedAs, OwnAnswers, ReadAnswers};
 
 use block_record::Slip;
 use one_block::{FileFault, Folder, StoreFault, form_of, read_single};
-use outer_world::{FileName, Shelf, ShelfFail, read_file};
+use outer_world::{FileName, Shelf};
+use shelf_check::read_text;
 use std::alloc::{AllocError, Global};
 
 /// The slip of the block that a file of `one/` holds.
@@ -26,19 +25,6 @@ pub(crate) fn own_slip<S: Shelf>(
     match slip_in(alloc, name, text.as_slice()) {
         Ok(slip) => Ok(slip),
         Err(fault) => Err(with_name(alloc, name, fault)),
-    }
-}
-
-/// The bytes of a file. One that is not there has none.
-fn read_text<S: Shelf>(alloc: Global, shelf: &mut S, name: &FileName) -> Result<Vec<u8>, ShelfFail>
-    ensures text { IfOk result (λ text. HasText (S.files shelf.old) name.now text.items) }
-    ensures files { S.files shelf.new ≡ S.files shelf.old }
-    ensures staged { S.staged shelf.new ≡ S.staged shelf.old }
-    ensures cause { HasShelfCause (S.shelf_faults shelf.old) (S.shelf_faults shelf.new) result }
-{
-    match read_file(alloc, shelf, name)? {
-        Some(text) => Ok(text),
-        None => Ok(Vec::new(alloc)),
     }
 }
 

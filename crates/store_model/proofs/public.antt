@@ -4,3 +4,4 @@ pub mod ReloadFacts
 pub mod StepFacts
 pub mod HeldFacts
 pub mod FrontFacts
+pub mod PlacesFacts

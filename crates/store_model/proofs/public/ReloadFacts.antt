@@ -32,7 +32,8 @@ use Rattle.store_model.proofs.RootFacts.{no_found, root_some, root_num_is}
 use Rattle.store_model.proofs.LoadFacts.{IsSetting, IsLoading, load_goes}
 use Rattle.store_model.proofs.public.TakenFacts.{shown_taken, taken_shown, taken_parents, merged_suffix, blocks_in_bundle}
 use Rattle.store_model.proofs.WithinFacts.{within_finals, same_heads}
-use Rattle.store_model.proofs.PassedFacts.{passed_later, places_filter, places_within}
+use Rattle.store_model.proofs.PassedFacts.{passed_later}
+use Rattle.store_model.proofs.public.PlacesFacts.{places_filter, places_within}
 use Rattle.store_model.proofs.RoundFacts.{IsRound, round_goes, full_round}
 use Rattle.store_model.proofs.SizeFacts.{loaded_size}
 use Rattle.bundle_model.proofs.public.StoredFacts.{among_found, found_is_among, among_any, final_found}

@@ -1,9 +1,10 @@
 -- The blocks at the places of those that pass a test.
-use Rattle.std.proofs.Common.{arith, ◌≡◌, ◌≤◌, ℕ, Bool, true, false, cond, List, [], ◌∷◌, length, refl, ap}
-use Rattle.std.specs.List.{list_any, filter}
+use Rattle.std.proofs.Common.{arith, ◌≡◌, ◌≤◌, ◌<◌, ℕ, Bool, true, false, cond, List, [], ◌∷◌, length, refl, ap}
+use Rattle.std.specs.List.{AllByRecursion, filter, list_any}
 use Rattle.std.proofs.Math.Dec.{eqb}
-use Rattle.std.proofs.lemmas.Bool.{eqb-true, eq-eqb, false_from_ne_true}
+use Rattle.std.proofs.lemmas.Bool.{false_from_ne_true, eqb-true, eq-eqb}
 use Rattle.block_record.specs.declared.blocks.Slip.{Slip}
+use Rattle.chain_laws.proofs.public.Growth.{all_weaker}
 use Rattle.bundle_model.specs.Plans.{at_places}
 use Rattle.store_model.specs.Loads.{places_of}
 
@@ -37,3 +38,11 @@ places_filter p (x ∷ xs) = go (p x) refl (places_filter p xs)
     go false e ih =
         let low = places_low p xs (length xs) (omega arith) in
         rw low ih
+
+-- places of a history are below its length
+pub places_within : (p : Slip → Bool) (xs : List Slip) → AllByRecursion (λ at. at < length xs) (places_of p xs)
+places_within p [] = tt
+places_within p (x ∷ xs) =
+    let rest = all_weaker (λ (n : ℕ). n < length xs) (λ (n : ℕ). n < length (x ∷ xs)) (λ n h. omega (arith, h)) (places_of p xs) (places_within p xs) in
+    let P : Bool → Type 0 = λ b. AllByRecursion (λ (at : ℕ). at < length (x ∷ xs)) (cond b (length xs ∷ places_of p xs) (places_of p xs)) in
+    elim (p x) as P [ true ↦ (omega arith, rest) | false ↦ rest ]

@@ -2,7 +2,7 @@ use Rattle.one_block.specs.declared.file_faults.FileFault.TheVariants.{Bad}
 use Rattle.shelf_check.specs.Merged.{IsOtherName}
 use Rattle.shelf_check.proofs.MergedFacts.{other_name}
 use Rattle.shelf_check.proofs.RefusalFacts.{refused_at}
-use Rattle.shelf_check.proofs.merged.based.Goals as goal
+use Rattle.shelf_check.proofs.merged.based_entries.Goals as goal
 
 pub returns-in-None : goal.returns-in-None
 returns-in-None c =

@@ -1,0 +1,2 @@
+-- The lemmas that crates above cite: lists in order that have the same elements are one.
+pub mod SortedFacts
