@@ -97,7 +97,11 @@ fn check_file<S: Shelf>(
 }
 
 /// The bytes of a file. One that is not there has none.
-pub fn read_text<S: Shelf>(alloc: Global, shelf: &mut S, name: &FileName) -> Result<Vec<u8>, ShelfFail>
+pub fn read_text<S: Shelf>(
+    alloc: Global,
+    shelf: &mut S,
+    name: &FileName,
+) -> Result<Vec<u8>, ShelfFail>
     ensures text { IfOk result (λ text. HasText (S.files shelf.old) name.now text.items) }
     ensures files { S.files shelf.new ≡ S.files shelf.old }
     ensures staged { S.staged shelf.new ≡ S.staged shelf.old }

@@ -45,7 +45,11 @@ pub fn check_merged<S: Shelf>(
 }
 
 /// The names with their bases.
-pub fn based_entries(alloc: Global, size: u64, names: &[FileName]) -> Result<Vec<(u64, FileName)>, LoadFault>
+pub fn based_entries(
+    alloc: Global,
+    size: u64,
+    names: &[FileName],
+) -> Result<Vec<(u64, FileName)>, LoadFault>
     requires { IsSize size }
     ensures { EntriesAnswer size names.now result }
 {

@@ -7,3 +7,9 @@ mod TakingFacts
 mod EndingFacts
 mod MarkFacts
 mod LawFacts
+mod RoomFacts
+mod EntryFacts
+mod FormedFacts
+mod PlaceFacts
+mod ShownFacts
+mod LoadFacts

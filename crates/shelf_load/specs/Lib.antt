@@ -4,3 +4,5 @@ pub mod Asides
 pub mod Taking
 pub mod Ending
 pub mod LoadLaws
+pub mod Loading
+pub mod Load
