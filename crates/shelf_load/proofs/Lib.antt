@@ -7,3 +7,6 @@ mod TakingFacts
 mod EndingFacts
 mod MarkFacts
 mod LawFacts
+mod LoadedFacts
+mod ReadingFacts
+mod FilesFacts

@@ -4,3 +4,6 @@ pub mod Asides
 pub mod Taking
 pub mod Ending
 pub mod LoadLaws
+pub mod Loading
+pub mod Greeting
+pub mod Merging

@@ -2,8 +2,10 @@
 #![tactic(auto)]
 
 mod ending;
+mod heads;
 mod laws;
 mod left_out;
+mod merged;
 mod owns;
 mod put_by;
 mod sweeps;
