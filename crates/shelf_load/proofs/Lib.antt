@@ -13,3 +13,6 @@ mod FormedFacts
 mod PlaceFacts
 mod ShownFacts
 mod LoadFacts
+mod LoadedFacts
+mod ReadingFacts
+mod FilesFacts

@@ -6,3 +6,5 @@ pub mod Ending
 pub mod LoadLaws
 pub mod Loading
 pub mod Load
+pub mod Greeting
+pub mod Merging

@@ -2,6 +2,7 @@
 #![tactic(auto)]
 
 mod ending;
+mod heads;
 mod laws;
 mod left_out;
 mod loads;
