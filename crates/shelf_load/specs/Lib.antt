@@ -4,3 +4,4 @@ pub mod Asides
 pub mod Taking
 pub mod Ending
 pub mod LoadLaws
+pub mod Loading
