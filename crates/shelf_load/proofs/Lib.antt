@@ -7,3 +7,5 @@ mod TakingFacts
 mod EndingFacts
 mod MarkFacts
 mod LawFacts
+mod PlaceFacts
+mod EntryFacts
