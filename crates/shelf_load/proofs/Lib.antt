@@ -9,3 +9,4 @@ mod MarkFacts
 mod LawFacts
 mod PlaceFacts
 mod EntryFacts
+mod ShownFacts
