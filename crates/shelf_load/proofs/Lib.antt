@@ -10,3 +10,4 @@ mod LawFacts
 mod PlaceFacts
 mod EntryFacts
 mod ShownFacts
+mod FormedFacts
