@@ -9,7 +9,6 @@ mod MarkFacts
 mod LawFacts
 mod RoomFacts
 mod EntryFacts
-mod FormedFacts
 mod PlaceFacts
 mod ShownFacts
 mod LoadFacts
