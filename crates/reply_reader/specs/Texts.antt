@@ -10,7 +10,8 @@ use Rattle.step_cursor.specs.declared.cursor.Cursor.{Cursor}
 use Rattle.step_cursor.specs.CursorText.{IsPrintable, IsRefIfAny, cursor_text}
 use Rattle.step_text.specs.StepText.{word_of}
 use Rattle.reply_text.specs.declared.errors.ErrorLine.{ErrorLine}
-use Rattle.reply_text.specs.Lines.{open_line, step_front, head_line, end_line, error_line}
+use Rattle.reply_text.specs.Lines.{cursor_after, open_line, step_front, head_line, end_line, error_line}
+use Rattle.reply_text.specs.Replies.{Reply as Printed, Open, StepOf, Head, End, Error}
 use Rattle.reply_text.specs.Values.{IsOpenValue, IsBlockValue, IsErrorValue}
 use Rattle.reply_reader.specs.declared.replies.Reply.{Reply}
 use Rattle.reply_reader.specs.declared.replies.Reply.TheVariants as reply
@@ -53,3 +54,11 @@ Says line (reply.Error kept) = IsErrorLine line × (line ≡ kept ++ 10 ∷ [])
 -- a line without its LF is the text of a reply
 abbrev pub IsReplyText : List ℕ → Reply → Type 0
 IsReplyText line r = Says (line ++ 10 ∷ []) r
+
+-- what a printed line is read as: a step with its cursor, and an error as the line itself, without the LF
+abbrev pub read_as : Printed → List ℕ → Reply
+read_as (Open type run_number place) line = reply.Open type run_number place.end place.lib
+read_as (StepOf kind b place tail) line = reply.Step kind b (cursor_after kind b place tail)
+read_as (Head head seen) line = reply.Head head seen
+read_as (End done) line = reply.End done
+read_as (Error e) line = reply.Error line

@@ -278,13 +278,14 @@ module _ (line rest : List ℕ) (s : Said) (bytes : IsBytes rest) where
       let d = read_by (ref_member (codes ",\"lib\":") c.value.1) (with_lib a.value.0 b.value.0 c.value.0) s c.later in
       let lib = ref_member_takes (codes ",\"lib\":") c.value.1 d.value end.bytes d.found in
       let p = ends_takes (codes "}") d.value.1 (OpenOf a.value.0 b.value.0 c.value.0 d.value.0) s d.later in
-      subst (IsSaidBy line) p.1
-      (record { named = type.value; run_small = run_number.value; end_is = end.value; lib_is = lib.value },
-      is
-      ∙ ap (λ l. codes "{\"open\":\"" ++ l)
-      (type.text_is
-      ∙ ap (λ l. word_then [] (escaped a.value.0) l)
-      (run_number.text_is ∙ ap (λ l. number_then (codes ",\"run\":") 44 b.value.0 l) (end.text_is ∙ ap (λ l. codes "\"end\":" ++ ref_then c.value.0 l) (lib.text_is ∙ ap (λ l. codes ",\"lib\":" ++ ref_then d.value.0 l) p.0)))))
+      subst (IsSaidBy line) p.1 (
+        record { named = type.value; run_small = run_number.value; end_is = end.value; lib_is = lib.value },
+        is
+            ∙ ap (λ l. codes "{\"open\":\"" ++ l)
+            (type.text_is
+            ∙ ap (λ l. word_then [] (escaped a.value.0) l)
+            (run_number.text_is ∙ ap (λ l. number_then (codes ",\"run\":") 44 b.value.0 l) (end.text_is ∙ ap (λ l. codes "\"end\":" ++ ref_then c.value.0 l) (lib.text_is ∙ ap (λ l. codes ",\"lib\":" ++ ref_then d.value.0 l) p.0)))),
+      )
     where
       type_takes : (text : List ℕ) (x : List ℕ × List ℕ) → IsBytes text → type_at text ≡ Some x → IsTaken IsTypeName (λ t l. word_then [] (escaped t) l) text x
       type_takes text x bytes e =

@@ -18,14 +18,15 @@ use Rattle.step_cursor.specs.CursorText.{cursor_text}
 use Rattle.step_text.specs.StepText.{word_of}
 use Rattle.text_parts.specs.Parts.{escaped}
 use Rattle.reply_text.specs.Lines.{ref_text, open_line, head_line, end_line}
-use Rattle.reply_text.specs.Values.{IsOpenValue, IsBlockValue}
+use Rattle.reply_text.specs.Replies.{Reply as Printed, Open, StepOf, Head, End, Error}
+use Rattle.reply_text.specs.Values.{IsOpenValue, IsBlockValue, IsReadAs}
 use Rattle.reply_laws.proofs.public.Readers.{right, whole_right}
 use Rattle.reply_reader.specs.declared.replies.Reply.{Reply}
 use Rattle.reply_reader.specs.declared.replies.Reply.TheVariants as reply
 use Rattle.reply_reader.specs.declared.replies.ReplyFault.{ReplyFault}
 use Rattle.reply_reader.specs.declared.replies.ReplyFault.TheVariants.{BadReply, Mem}
 use Rattle.reply_reader.specs.Reading.{Said, OpenOf, StepOf, HeadOf, EndOf, ErrorOf, said, HasBytes, Gives, read_line}
-use Rattle.reply_reader.specs.Texts.{cursor_line, old_cursor_line, IsStepLine, IsErrorLine, Says, IsReplyText}
+use Rattle.reply_reader.specs.Texts.{cursor_line, old_cursor_line, IsStepLine, IsErrorLine, Says, IsReplyText, read_as}
 use Rattle.reply_reader.proofs.public.MemberFacts.{IsSmall, number_then, word_then}
 use Rattle.reply_reader.proofs.public.StepFacts.{AreFields, IsBlock, fields_then, digest_then, cursor_then, step_text, old_step_text}
 use Rattle.reply_reader.proofs.public.ErrorFacts.{line_end}
@@ -118,14 +119,17 @@ is_said line (reply.Open type run_number end lib) is = record {
   text_is = texts line _ _ is.1 (open_text-line type run_number end lib);
 }
 is_said line (reply.Step kind b c) is = record {
-  fits = (record {
-    num = is.block.num;
-    id = is.block.id;
-    parent_num = is.block.parent_num;
-    parent_id = is.block.parent_id;
-    lib_num = is.block.lib_num;
-    time = is.block.time;
-  }, is.cursor_is);
+  fits = (
+    record {
+      num = is.block.num;
+      id = is.block.id;
+      parent_num = is.block.parent_num;
+      parent_id = is.block.parent_id;
+      lib_num = is.block.lib_num;
+      time = is.block.time;
+    },
+    is.cursor_is,
+  );
   has_block = record { first = b.parent_first; small = b.small; bytes = is.block.payload };
   text_is = in_form is.text;
 }
@@ -180,3 +184,16 @@ pub says_nothing : (line : List ℕ) (r : Result Reply ReplyFault) → Gives sai
 says_nothing line (Ok y) gives bad x is = cc bad
 says_nothing line (Err Mem) gives bad x is = cc bad
 says_nothing line (Err BadReply) gives bad x is = let clash = sym gives ∙ read_said line x is in cc clash
+
+-- ---- printed lines
+
+-- a printed line is the text of what it is read as
+pub printed_says : (line : List ℕ) (r : Printed) → IsReadAs line r → IsReplyText line (read_as r line)
+printed_says line (Open type run_number place) is = (is.value, sym is.text)
+printed_says line (StepOf kind b place tail) is = record { block = is.value.0; cursor_is = is.value.1; text = inl (sym is.text) }
+printed_says line (Head head seen) is = (is.value.0, is.value.1, sym is.text)
+printed_says line (End done) is = sym is.text
+printed_says line (Error e) is = (record { error = e; value = is.value; text = sym is.text }, refl)
+
+pub printed_is_read : (line : List ℕ) (r : Result Reply ReplyFault) → Gives said r (read_line line) → (x : Printed) → IsReadAs line x → r ≢ Err Mem → r ≡ Ok (read_as x line)
+printed_is_read line r gives x is = said_back line r gives (read_as x line) (printed_says line x is)

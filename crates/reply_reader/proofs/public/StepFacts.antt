@@ -160,7 +160,6 @@ payload_of_takes word payload bytes e = by_decoding (decode_of standard word) re
         let same = (cond_some (nat_le (length b) 50_000_000) b payload e).1 in
         decode_of_strict standard word payload (refl, refl) bytes (is ∙ ap Ok same)
 
-
 payload_takes : (text : List ℕ) (x : List ℕ × List ℕ) → IsBytes text → member (codes "\"payload\":\"") 34 payload_of text ≡ Some x → text ≡ payload_then x.0 x.1
 payload_takes text x bytes e =
     let m = member_takes (codes "\"payload\":\"") 34 payload_of text x bytes e in
@@ -237,8 +236,8 @@ block_takes text x bytes e =
         time = time.value;
       };
       text_is = names.text_is
-      ∙ ap (λ l. names_then a.value.0 l)
-      (lib_num.text_is ∙ ap (λ l. number_then (codes ",\"lib_num\":") 44 b.value.0 l) (time.text_is ∙ ap (λ l. number_then (codes "\"time\":") 44 c.value.0 l) (payload_takes c.value.1 d.value time.bytes d.found)));
+          ∙ ap (λ l. names_then a.value.0 l)
+          (lib_num.text_is ∙ ap (λ l. number_then (codes ",\"lib_num\":") 44 b.value.0 l) (time.text_is ∙ ap (λ l. number_then (codes "\"time\":") 44 c.value.0 l) (payload_takes c.value.1 d.value time.bytes d.found)));
       bytes = payload.bytes;
     } in
     let same : p ≡ x = same_Some p x d.later in

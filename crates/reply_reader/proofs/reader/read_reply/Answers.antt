@@ -1,5 +1,5 @@
 use Rattle.std.proofs.Common.{arith}
-use Rattle.reply_reader.proofs.public.ReplyFacts.{text_said, said_back, says_nothing}
+use Rattle.reply_reader.proofs.public.ReplyFacts.{text_said, said_back, says_nothing, printed_is_read}
 use Rattle.reply_reader.proofs.reader.read_reply.Goals as goal
 
 pub returns-clause-text : goal.returns-clause-text
@@ -10,3 +10,6 @@ returns-clause-back c = said_back c.args.line.now c.read_line.result c.read_line
 
 pub returns-clause-fault : goal.returns-clause-fault
 returns-clause-fault c = says_nothing c.args.line.now c.read_line.result c.read_line.ensures.value
+
+pub returns-clause-printed : goal.returns-clause-printed
+returns-clause-printed c = printed_is_read c.args.line.now c.read_line.result c.read_line.ensures.value
