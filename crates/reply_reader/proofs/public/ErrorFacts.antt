@@ -1,5 +1,5 @@
 -- The lines of errors: each is read, and what is read is one.
-use Rattle.std.proofs.Common.{◌≡◌, ℕ, Bool, true, false, cond, List, [], ◌∷◌, ◌++◌, Option, None, Some, refl, sym, ◌∙◌, ap, subst, append_assoc}
+use Rattle.std.proofs.Common.{◌≡◌, ℕ, List, [], ◌∷◌, ◌++◌, Option, None, Some, refl, sym, ◌∙◌, ap, subst, append_assoc}
 use Rattle.std.specs.Prelude.{codes}
 use Rattle.std.specs.Fmt.{decimal}
 use Rattle.base64.specs.GeneralPurpose.{IsBytes}
@@ -17,10 +17,10 @@ use Rattle.reply_text.specs.Values.{IsErrorValue}
 use Rattle.reply_laws.proofs.public.Readers.{right}
 use Rattle.reply_laws.proofs.public.Values.{none-request_word, none-misfit_word, error_word, none-error_word}
 use Rattle.reply_reader.specs.Parts.{◌>>=◌, after_front, until, member, quoted}
-use Rattle.reply_reader.specs.Reading.{request_field, misfit_field, ends, name_at, bad_request_in, malformed_in, unknown_in, misfit_in, stop_below_in, stored_other_in, shelf_bad_in, missing_in, bare_error, plain_error, error_by, error_in}
-use Rattle.reply_reader.proofs.public.MemberFacts.{read_by, bytes_left, bytes_right, front_again, front_takes, until_again, until_takes, member_again, member_takes, number_then, number_again, number_takes, word_then, id_again, id_takes}
+use Rattle.reply_reader.specs.Reading.{request_field, misfit_field, ends, name_at, bad_request_in, malformed_in, unknown_in, misfit_in, stop_below_in, stored_other_in, shelf_bad_in, missing_in, bare_error, error_by, error_in}
+use Rattle.reply_reader.proofs.public.MemberFacts.{read_by, bytes_right, front_again, front_takes, until_again, until_takes, member_again, member_takes, number_then, number_again, number_takes, word_then, id_again, id_takes}
 use Rattle.reply_reader.proofs.public.EscapedFacts.{quoted_again, quoted_takes}
-use Rattle.reply_reader.proofs.public.StepFacts.{ends_again, ends_takes, choose}
+use Rattle.reply_reader.proofs.public.StepFacts.{ends_takes, choose}
 
 -- a line with its LF
 pub line_end : (ps : List (List ℕ)) (end : List ℕ) → right ps end ++ 10 ∷ [] ≡ right ps (end ++ 10 ∷ [])

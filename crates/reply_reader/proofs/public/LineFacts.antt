@@ -1,8 +1,6 @@
 -- The lines of a session: each is read, and what is read is one.
-use Rattle.std.proofs.Common.{◌≡◌, ◌⊎◌, inl, inr, ℕ, Bool, true, false, cond, List, [], ◌∷◌, ◌++◌, Option, None, Some, refl, sym, ◌∙◌, ap, subst, append_assoc}
+use Rattle.std.proofs.Common.{◌≡◌, ◌⊎◌, inl, inr, ℕ, Bool, true, false, cond, List, [], ◌∷◌, ◌++◌, Option, None, Some, refl, sym, ◌∙◌, ap, subst}
 use Rattle.std.specs.Prelude.{codes}
-use Rattle.std.specs.Fmt.{decimal}
-use Rattle.std.specs.List.{concat}
 use Rattle.std.specs.Option.{option_map}
 use Rattle.std.proofs.lemmas.List.{append_cancel_right}
 use Rattle.std.proofs.lemmas.Option.{cond_some, same_Some}
@@ -17,15 +15,13 @@ use Rattle.step_cursor.specs.declared.cursor.Cursor.{Cursor}
 use Rattle.step_cursor.specs.CursorText.{IsRef, IsRefIfAny, IsPrintable}
 use Rattle.text_parts.specs.Parts.{escaped}
 use Rattle.reply_text.specs.declared.errors.ErrorLine.{ErrorLine}
-use Rattle.reply_text.specs.Lines.{ref_text}
-use Rattle.reply_laws.proofs.public.Values.{error_word}
 use Rattle.reply_reader.specs.Parts.{◌>>=◌, or_by, after_front, member, quoted}
 use Rattle.reply_reader.specs.Reading.{Said, OpenOf, StepOf, HeadOf, EndOf, ErrorOf, some_ref_at, ref_at, ref_member, ends, type_at, read_open, read_step, read_head, read_end, error_in, error_said, read_line}
 use Rattle.reply_reader.specs.Texts.{IsErrorLine}
 use Rattle.reply_reader.proofs.public.MemberFacts.{read_by, bytes_right, front_again, front_takes, IsTaken, IsSmall, number_then, number_again, number_takes, word_then, id_again, id_takes}
 use Rattle.reply_reader.proofs.public.EscapedFacts.{quoted_again, quoted_takes}
-use Rattle.reply_reader.proofs.public.StepFacts.{ends_again, ends_takes, choose, AreFields, IsBlock, step_text, old_step_text, step_text_again, old_step_text_again, step_text_takes}
-use Rattle.reply_reader.proofs.public.ErrorFacts.{error_text, error_text-line, error_end, error_again, error_takes}
+use Rattle.reply_reader.proofs.public.StepFacts.{ends_takes, choose, AreFields, IsBlock, step_text, old_step_text, step_text_again, old_step_text_again, step_text_takes}
+use Rattle.reply_reader.proofs.public.ErrorFacts.{error_text, error_text-line, error_again, error_takes}
 
 -- ---- blocks by number and id, or `null`
 
@@ -190,16 +186,7 @@ error_said_again : (line : List ℕ) → IsErrorLine (line ++ 10 ∷ []) → rea
 unfolding read_line
 error_said_again line is =
     let spelled : line ≡ error_text is.error = append_cancel_right line (error_text is.error) (10 ∷ []) (is.text ∙ sym (error_text-line is.error)) in
-    let read = error_again is.error is.value in
-    ap (λ l. read_line_of l line) spelled ∙ ap (λ o. option_map (λ _. ErrorOf line) o) read
-  where
-    read_line_of : List ℕ → List ℕ → Option Said
-    read_line_of text kept =
-        or_by (after_front (codes "{\"step\":\"") text) read_step (
-        or_by (after_front (codes "{\"head\":") text) read_head (
-        or_by (after_front (codes "{\"open\":\"") text) read_open (
-        or_by (after_front (codes "{\"end\":\"") text) read_end (
-        or_by (after_front (codes "{\"error\":\"") text) (error_said kept) None))))
+    ap read_line spelled ∙ ap (λ o. option_map (λ _. ErrorOf (error_text is.error)) o) (error_again is.error is.value) ∙ ap (λ l. Some (ErrorOf l)) (sym spelled)
 
 pub read_again : (line : List ℕ) (s : Said) → Fits s → HasBlock s → IsTextOf line s → read_line line ≡ Some s
 unfolding read_line

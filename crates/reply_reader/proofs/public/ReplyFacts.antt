@@ -10,7 +10,7 @@ use Rattle.base64.specs.Engines.{standard}
 use Rattle.hex.specs.Hex.{encode_lower}
 use Rattle.block_record.specs.declared.blocks.Block.{Block}
 use Rattle.block_record.specs.declared.blocks.BlockRef.{BlockRef}
-use Rattle.block_record.specs.Records.{Fields, fields_of}
+use Rattle.block_record.specs.Records.{fields_of}
 use Rattle.block_record.proofs.public.RecordFacts.{same_block}
 use Rattle.chain_model.specs.declared.places.Step.{Step}
 use Rattle.step_cursor.specs.declared.cursor.Cursor.{Cursor}
@@ -19,18 +19,18 @@ use Rattle.step_text.specs.StepText.{word_of}
 use Rattle.text_parts.specs.Parts.{escaped}
 use Rattle.reply_text.specs.Lines.{ref_text, open_line, head_line, end_line}
 use Rattle.reply_text.specs.Replies.{Reply as Printed, Open, StepOf, Head, End, Error}
-use Rattle.reply_text.specs.Values.{IsOpenValue, IsBlockValue, IsReadAs}
-use Rattle.reply_laws.proofs.public.Readers.{right, whole_right}
+use Rattle.reply_text.specs.Values.{IsReadAs}
+use Rattle.reply_laws.proofs.public.Readers.{whole_right}
 use Rattle.reply_reader.specs.declared.replies.Reply.{Reply}
 use Rattle.reply_reader.specs.declared.replies.Reply.TheVariants as reply
 use Rattle.reply_reader.specs.declared.replies.ReplyFault.{ReplyFault}
 use Rattle.reply_reader.specs.declared.replies.ReplyFault.TheVariants.{BadReply, Mem}
-use Rattle.reply_reader.specs.Reading.{Said, OpenOf, StepOf, HeadOf, EndOf, ErrorOf, said, HasBytes, Gives, read_line}
-use Rattle.reply_reader.specs.Texts.{cursor_line, old_cursor_line, IsStepLine, IsErrorLine, Says, IsReplyText, read_as}
-use Rattle.reply_reader.proofs.public.MemberFacts.{IsSmall, number_then, word_then}
-use Rattle.reply_reader.proofs.public.StepFacts.{AreFields, IsBlock, fields_then, digest_then, cursor_then, step_text, old_step_text}
+use Rattle.reply_reader.specs.Reading.{Said, StepOf, said, HasBytes, Gives, read_line}
+use Rattle.reply_reader.specs.Texts.{cursor_line, old_cursor_line, IsReplyText, read_as}
+use Rattle.reply_reader.proofs.public.MemberFacts.{number_then, word_then}
+use Rattle.reply_reader.proofs.public.StepFacts.{fields_then, digest_then, cursor_then, step_text, old_step_text}
 use Rattle.reply_reader.proofs.public.ErrorFacts.{line_end}
-use Rattle.reply_reader.proofs.public.LineFacts.{ref_then, open_text, head_text, end_text, IsOpen, IsTextOf, Fits, HasBlock, read_again, read_takes}
+use Rattle.reply_reader.proofs.public.LineFacts.{ref_then, open_text, head_text, end_text, IsTextOf, Fits, HasBlock, read_again, read_takes}
 
 -- ---- a text and its LF are the line
 

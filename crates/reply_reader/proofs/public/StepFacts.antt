@@ -28,12 +28,9 @@ use Rattle.reply_reader.specs.Parts.{◌>>=◌, or_by, after_front, member, step
 use Rattle.reply_reader.specs.Reading.{Said, StepOf, any_names_at, names_at, block_at, digest_value, after_digest, ends, read_step}
 use Rattle.reply_reader.proofs.public.BlockFacts.{any_names_are, block_is}
 use Rattle.reply_reader.proofs.public.CursorFacts.{cursor_takes, cursor_again}
-use Rattle.reply_reader.proofs.public.MemberFacts.{IsReadBy, read_by, bytes_right, front_again, front_takes, member_again, member_takes, IsTaken, IsSmall, number_then, number_again, number_takes, word_then, id_again, id_takes}
+use Rattle.reply_reader.proofs.public.MemberFacts.{read_by, bytes_right, front_again, front_takes, member_again, member_takes, IsTaken, IsSmall, number_then, number_again, number_takes, word_then, id_again, id_takes}
 
 -- ---- values at the end of a line
-
-pub ends_again : {A : Type 0} (end : List ℕ) (v : A) → ends end end v ≡ Some v
-ends_again end v = let same : bytes_eq end end ≡ true = (bytes_eq-Decides end end).1 refl in rw same refl
 
 pub ends_takes : {A : Type 0} (end rest : List ℕ) (v w : A) → ends end rest v ≡ Some w → (rest ≡ end) × (v ≡ w)
 ends_takes end rest v w e = let parts = cond_some (bytes_eq rest end) v w e in ((bytes_eq-Decides rest end).0 parts.0, parts.1)
