@@ -15,7 +15,7 @@ use std::alloc::Global;
 /// What a line says. `line` has no LF; of an error the reply keeps it whole. A payload is decoded
 /// into the memory that the block keeps.
 pub fn read_reply(alloc: Global, line: &[u8]) -> Result<Reply, ReplyFault>
-    // What is read is what the line says, and each text of a reply is read.
+    // What is read is what the line says, and each text of a reply is read as that reply.
     ensures text { IfOk result (λ reply. IsReplyText line.now reply) }
     ensures back { (reply : Reply) → IsReplyText line.now reply
         → Unless ReplyFault.Mem result (result ≡ Ok reply) }
@@ -25,7 +25,8 @@ pub fn read_reply(alloc: Global, line: &[u8]) -> Result<Reply, ReplyFault>
         → Unless ReplyFault.Mem result (result ≡ Ok (read_as printed line.now)) }
 
     // A line is refused only where it says nothing.
-    ensures fault { result ≡ Err ReplyFault.BadReply → (reply : Reply) → ¬ (IsReplyText line.now reply) }
+    ensures fault { result ≡ Err ReplyFault.BadReply
+        → (reply : Reply) → ¬ (IsReplyText line.now reply) }
 {
     read_line(alloc, line)
 }
