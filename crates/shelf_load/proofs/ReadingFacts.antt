@@ -153,7 +153,7 @@ module _ (files : Option Files) (name : List ℕ) (old now : Stage) (r : FileSta
   place_is =
       let here : place_of r ≡ told (7 + length g.block_type + r.passed) = ap (λ (o : Option (List ℕ)). next_place o r.passed) g.typed in
       let sum : message_place g.block_type g.given ≡ 7 + length g.block_type + bytes_of g.given =
-          omega (arith, length-append (header_text g.block_type) (flat_map message_text g.given), length-append (codes "dbin") (1 ∷ (to_be_bytes w16 (length g.block_type) ++ g.block_type)), length-append (to_be_bytes w16 (length g.block_type)) g.block_type) in
+      omega (arith, length-append (header_text g.block_type) (flat_map message_text g.given), length-append (codes "dbin") (1 ∷ (to_be_bytes w16 (length g.block_type) ++ g.block_type)), length-append (to_be_bytes w16 (length g.block_type)) g.block_type) in
       omega (arith, here, sum, g.read.passed_is)
 
   message_bad : (m : List ℕ) (more : List (List ℕ)) (at : ℕ) → r.left ≡ m ∷ more → IsNoRecord (next_record_place r) m at → IsBadBundle files name at
