@@ -12,8 +12,7 @@ use Rattle.outer_world.specs.Files.{Files}
 use Rattle.outer_world.specs.Shelves.{AreNamesOf}
 use Rattle.file_reader.specs.Reading.{HasFront, HasText}
 use Rattle.one_block.specs.Files.{base_in, folder_of_size}
-use Rattle.one_block.specs.declared.file_faults.FileFault.{FileFault}
-use Rattle.one_block.specs.declared.file_faults.FileFault.TheVariants.{Bad, OtherType}
+use Rattle.one_block.specs.declared.file_faults.FileFault.TheVariants.{Bad}
 use Rattle.one_block.specs.declared.faults.StoreFault.TheVariants as store
 use Rattle.relay_model.specs.Worlds.{World}
 use Rattle.shelf_check.specs.Merged.{Entry, entry_order, AreBased, IsOtherName}

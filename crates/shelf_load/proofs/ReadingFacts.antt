@@ -1,5 +1,5 @@
 -- A file of merged blocks, loaded block by block.
-use Rattle.std.proofs.Common.{arith, ◌≡◌, ◌<◌, ◌≤◌, ◌+◌, ◌-◌, ◌^◌, ◌⊎◌, inl, inr, min, ℕ, Bool, true, false, nat_lt, IsTrue, IsFalse, List, [], ◌∷◌, ◌++◌, length, Option, Some, None, Result, Ok, Err, refl, sym, ap, subst, ◌∙◌, append_assoc, length-append}
+use Rattle.std.proofs.Common.{arith, ◌≡◌, ◌<◌, ◌+◌, ◌-◌, ◌^◌, ◌⊎◌, inl, inr, min, ℕ, Bool, true, false, nat_lt, IsTrue, IsFalse, List, [], ◌∷◌, ◌++◌, length, Option, Some, None, Ok, Err, refl, sym, ap, subst, ◌∙◌, append_assoc, length-append}
 use Rattle.std.specs.Option.{is_some, option_map, unwrap_or}
 use Rattle.std.specs.Prelude.{codes}
 use Rattle.std.specs.Int.{w16, to_be_bytes}
@@ -25,8 +25,8 @@ use Rattle.shelf_check.specs.declared.faults.LoadFault.{LoadFault}
 use Rattle.shelf_check.specs.declared.faults.LoadFault.TheVariants as fault
 use Rattle.shelf_load.specs.declared.put_by.Origin.TheVariants.{StoredFile}
 use Rattle.shelf_load.specs.Asides.{Aside}
-use Rattle.shelf_load.specs.Greeting.{IsGreeted, HeadRefused, IsHeadTold}
-use Rattle.shelf_load.specs.Loading.{TakenFile, IsLoaded, IsPart, with_block, IsBadBundle, IsBadRecord, LoadRefused}
+use Rattle.shelf_load.specs.Greeting.{HeadRefused, IsHeadTold}
+use Rattle.shelf_load.specs.Loading.{TakenFile, IsLoaded, IsPart, with_block, IsBadBundle, LoadRefused}
 use Rattle.shelf_load.specs.Merging.{BlockRefused, BlockAnswers, EndRefused, IsFileLoaded, FileAnswers}
 use Rattle.shelf_load.specs.Taking.{Stage, stage, taken, IsTaken, TakeRefused}
 use Rattle.shelf_load.proofs.LoadedFacts.{loaded_head, loaded_more, take_refused, greet_refused}

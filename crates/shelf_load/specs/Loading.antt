@@ -4,7 +4,6 @@ use Rattle.std.specs.Option.{option_map, is_some}
 use Rattle.std.specs.List.{AllByRecursion, flat_map}
 use Rattle.block_record.specs.declared.blocks.Block.{Block}
 use Rattle.block_record.specs.declared.blocks.Kind.{Kind}
-use Rattle.block_record.specs.declared.blocks.Version.{Version}
 use Rattle.block_record.specs.declared.blocks.Version.TheVariants.{V3}
 use Rattle.block_record.specs.Slips.{slip}
 use Rattle.dbin_file.specs.Contents.{contents, message_place}

@@ -1,7 +1,7 @@
 -- The steps by which the files of merged blocks are loaded.
-use Rattle.std.specs.Prelude.{ℕ, ◌≡◌, ◌++◌, ◌⊎◌, Bool, IsTrue, IsFalse, nat_lt, List, [], ◌∷◌, length, map, Option, None, Some, ⊤, Result, Ok, Err}
+use Rattle.std.specs.Prelude.{ℕ, ◌≡◌, ◌++◌, ◌⊎◌, Bool, IsTrue, IsFalse, nat_lt, List, [], ◌∷◌, length, Option, None, Some, ⊤, Result, Ok, Err}
 use Rattle.std.specs.Option.{is_some}
-use Rattle.std.specs.List.{AllByRecursion, All, Contains}
+use Rattle.std.specs.List.{AllByRecursion, Contains}
 use Rattle.block_record.specs.declared.blocks.Block.{Block}
 use Rattle.dbin_file.specs.Reader.{end_fault}
 use Rattle.outer_world.specs.Files.{Files}

@@ -33,7 +33,8 @@ pub(crate) fn load_merged<S: Shelf>(
     ensures answer { (w : World) (older : List TakenFile)
         → IsLoaded w older (stage (world_told relay.old) left.old)
         → AllByRecursion (IsPart (S.files shelf.old)) older
-        → LoadAnswers (AreBundlesTaken size (S.files shelf.old)) (IsBadMerged size (S.files shelf.old))
+        → LoadAnswers (AreBundlesTaken size (S.files shelf.old))
+        (IsBadMerged size (S.files shelf.old))
         (S.files shelf.old) w older (stage (world_told relay.new) left.new)
         (S.shelf_faults shelf.old) (S.shelf_faults shelf.new) result }
     ensures files { S.files shelf.new ≡ S.files shelf.old }

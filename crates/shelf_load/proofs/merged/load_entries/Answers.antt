@@ -34,3 +34,8 @@ loop-entry-preserved g c = record {
   staged = c.in_ok-load_bundle.ensures.staged ∙ c.loop-entry.invariant.staged;
   later = omega (arith, c.loop-entry.invariant.later, c.in_ok-load_bundle.ensures.later);
 }
+
+pub returns-clause-answer : goal.returns-clause-answer
+returns-clause-answer g c =
+    all_through (g.S.Shelf.files c.args.shelf.now) c.args.entries.now c.loop-entry.entry-index (stage (world_told c.args.relay.now) c.args.left.now) (stage (world_told c.loop-entry.relay) c.loop-entry.left)
+    (omega (arith, c.loop-entry.auto.entry-index-end, c.loop-entry-test.false)) c.loop-entry.invariant.read

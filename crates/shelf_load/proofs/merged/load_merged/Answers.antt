@@ -15,7 +15,7 @@ use Rattle.shelf_load.proofs.merged.load_merged.Goals as goal
 
 pub returns-in_err-list-clause-answer : goal.returns-in_err-list-clause-answer
 returns-in_err-list-clause-answer g c =
-    let p = err_from_is_err_and c.from_residual-in_err-list.result c.from_residual-in_err-list.ensures.1 in
+    let p = err_from_is_err_and c.from_residual.result c.from_residual.ensures.1 in
     rw (p.1, p.2)
     (λ w older l parts. shelf_refused (IsBadMerged c.args.size (g.S.Shelf.files c.args.shelf.now)) (g.S.Shelf.files c.args.shelf.now) w (g.S.Shelf.shelf_faults c.args.shelf.now) (g.S.Shelf.shelf_faults c.args.shelf.now) (g.S.Shelf.shelf_faults c.list.new.self)
     c.in_err-list.field-0.0 (le_refl (g.S.Shelf.shelf_faults c.args.shelf.now)) c.in_err-list.ensures.cause.failed)
