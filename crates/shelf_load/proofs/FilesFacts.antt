@@ -27,11 +27,11 @@ use Rattle.shelf_load.proofs.ReadingFacts.{IsBadNamed}
 
 -- ---- files that were read whole are parts
 
-whole_front : (files : Option Files) (name text : List ℕ) → HasText files name text → HasFront files name text
+pub whole_front : (files : Option Files) (name text : List ℕ) → HasText files name text → HasFront files name text
 whole_front None name text h = tt
 whole_front (Some files) name text h = ([], append-nil text ∙ sym h)
 
-whole_part : (size : ℕ) (files : Option Files) (x : TakenFile) → IsBundleTaken size files x → IsPart files x
+pub whole_part : (size : ℕ) (files : Option Files) (x : TakenFile) → IsBundleTaken size files x → IsPart files x
 whole_part size files x b = record {
   there = whole_front files x.name x.text b.there;
   typed = b.holds.typed;
@@ -47,7 +47,7 @@ all_parts size files (x ∷ xs) older each parts = (whole_part size files x each
 
 -- ---- one after another
 
-entries_more : (xs : List TakenFile) (x : TakenFile) → entries_of (x ∷ xs) ≡ entries_of xs ++ (x.num, x.name) ∷ []
+pub entries_more : (xs : List TakenFile) (x : TakenFile) → entries_of (x ∷ xs) ≡ entries_of xs ++ (x.num, x.name) ∷ []
 entries_more xs x = ap (map (λ (y : TakenFile). (y.num, y.name))) (reverse-append (x ∷ []) xs) ∙ map-append (λ (y : TakenFile). (y.num, y.name)) (reverse xs) (x ∷ [])
 
 -- the first of these files were loaded

@@ -15,3 +15,6 @@ mod LoadFacts
 mod LoadedFacts
 mod ReadingFacts
 mod FilesFacts
+mod NumberFacts
+mod ListedFacts
+mod SingleFacts

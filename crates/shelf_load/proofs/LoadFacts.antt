@@ -1,50 +1,47 @@
 -- A relay into which all files of a shelf were taken is the one that loading is defined to give.
-use Rattle.std.proofs.Common.{arith, ◌≡◌, ◌≢◌, ◌≤◌, ◌⊎◌, ◌+◌, ◌-◌, ◌^◌, min, cond, inl, inr, ℕ, Bool, true, false, not, ◌&&◌, List, [], ◌∷◌, ◌++◌, length, map, reverse, Option, Some, None, Result, Ok, refl, sym, ap, subst, ◌∙◌}
+use Rattle.std.proofs.Common.{arith, ◌≡◌, ◌≢◌, ◌≤◌, ◌⊎◌, ◌+◌, cond, inl, inr, ℕ, Bool, true, false, not, ◌&&◌, List, [], ◌∷◌, ◌++◌, length, reverse, Option, Some, None, Result, Ok, refl, sym, ap, subst, ◌∙◌}
 use Rattle.std.specs.List.{AllByRecursion}
 use Rattle.std.specs.Result.{result_unwrap_or}
 use Rattle.std.proofs.lemmas.List.{append-nil, reverse-reverse}
 use Rattle.chain_laws.proofs.public.Growth.{all_weaker}
 use Rattle.block_record.specs.declared.blocks.Slip.{Slip}
 use Rattle.block_record.specs.declared.blocks.Kind.{Kind}
-use Rattle.chain_model.specs.Ancestry.{find_id}
-use Rattle.chain_model.specs.Finality.{final_ancestry}
-use Rattle.dbin_file.specs.Contents.{contents, told}
+use Rattle.dbin_file.specs.Contents.{told}
 use Rattle.outer_world.specs.Causes.{Rose}
 use Rattle.outer_world.specs.Files.{Files, AreInOrder, names_of}
-use Rattle.file_reader.specs.Reading.{HasFront, HasText}
 use Rattle.one_block.specs.Layout.{HasLayout, layout_size}
 use Rattle.one_block.specs.declared.faults.StoreFault.TheVariants as store
 use Rattle.shelf_check.specs.declared.faults.LoadFault.{LoadFault}
 use Rattle.shelf_check.specs.declared.faults.LoadFault.TheVariants as fault
 use Rattle.relay_model.specs.Worlds.{World}
-use Rattle.relay_model.specs.Offers.{judge, offered, tip_num, world_by}
+use Rattle.relay_model.specs.Offers.{judge, world_by}
 use Rattle.relay_model.specs.Offers.{kind_after as kind_admitted}
 use Rattle.relay_model.specs.Verdicts.{Verdict}
 use Rattle.relay_model.specs.Verdicts as verdict
 use Rattle.relay_model.specs.Soundness.{IsSound}
 use Rattle.relay_model.proofs.public.Sound.{same_sound}
-use Rattle.bundle_model.specs.Laws.{IsFrontStored}
 use Rattle.bundle_model.specs.Plans.{stored_slips}
 use Rattle.bundle_model.specs.Shedding.{stored_after}
 use Rattle.chain_model.specs.Ancestry.{has_id}
-use Rattle.store_model.specs.Kept.{Keeps, IsStoredFinal, IsStoredFork}
-use Rattle.store_model.specs.Laws.{IsEmpty, IsSame}
-use Rattle.store_model.specs.Loads.{Loading, Round, load_all, loaded, loading_of, taken}
+use Rattle.store_model.specs.Kept.{IsStoredFinal, IsStoredFork}
+use Rattle.store_model.specs.Laws.{IsEmpty}
+use Rattle.store_model.specs.Loads.{Loading, Round, load_all, loading_of, taken}
 use Rattle.store_files.specs.Folders.{shown_of, size_of}
-use Rattle.store_files.specs.Kept.{IsClean, IsKept, IsWholeKept, loaded_from}
+use Rattle.store_files.specs.Kept.{IsClean, IsKept, loaded_from}
 use Rattle.store_files.specs.Laws.{LoadKeepsFiles, ReloadsFrom}
 use Rattle.store_files.proofs.public.KeptFacts.{load_keeps_files}
 use Rattle.shelf_load.specs.declared.loads.Loaded.{Loaded}
 use Rattle.shelf_load.specs.Asides.{Aside, Put, slips_put}
 use Rattle.shelf_load.specs.Taking.{Stage, Taken, stage, take_all}
 use Rattle.shelf_load.specs.Ending.{IsRounded, RoundRefused, is_again, lost_count, offer_round, put_all, put_one, round_at}
-use Rattle.shelf_load.specs.LoadLaws.{IsAlikeStored, IsLoading, AreTaken, all_stored, all_taken, nothing, offered_again, slips_taken, with_stored}
+use Rattle.shelf_load.specs.LoadLaws.{IsAlikeStored, IsLoading, AreTaken, all_stored, all_taken, nothing, offered_again, with_stored}
 use Rattle.shelf_load.specs.Loading.{TakenFile, AreBundlesTaken, AreSinglesTaken, HadRoom, AreLoaded, IsBadMerged, IsBadSingleFile, IsBundleTaken, IsLoaded, IsPart, LoadAnswers, LoadRefused, all_taken_of, begun, file_kind, first_kind, kind_after}
 use Rattle.shelf_load.specs.Load.{IsBadFile, IsCounted, IsFromFiles, IsRefusedLoad, OfTold, Reloads, early_count, loading_from, lost_of, passed_of}
 use Rattle.shelf_load.proofs.LoadingFacts.{Follows, all_follow}
 use Rattle.shelf_load.proofs.LawFacts.{taking_is_loading}
 use Rattle.shelf_load.proofs.RoomFacts.{early_is, lost_is, room_is, told_more}
 use Rattle.shelf_load.proofs.ShownFacts.{shown_taken}
+use Rattle.shelf_load.proofs.FilesFacts.{whole_part}
 
 -- ---- the kind
 
@@ -301,21 +298,6 @@ round_refused files old size first now xs g (fault.HistoryFull len need) loaded_
 
 -- ---- one call after another
 
--- a file that was read whole was read in part
-text_front : (files : Option Files) (name text : List ℕ) → HasText files name text → HasFront files name text
-text_front None name text h = tt
-text_front (Some files) name text h = ([], append-nil text ∙ sym h)
-
-bundle_part : (size : ℕ) (files : Option Files) (x : TakenFile) → IsBundleTaken size files x → IsPart files x
-bundle_part size files x h = record {
-  there = text_front files x.name x.text h.there;
-  typed = h.holds.typed;
-  messages = (contents x.text).messages;
-  more = [];
-  messages_are = sym (append-nil (contents x.text).messages);
-  records = h.holds.records;
-}
-
 -- what is said of loading the files of one block, after others
 abbrev pub SinglesAsked : Option Files → Stage → Stage → ℕ → ℕ → Result Unit LoadFault → Type 0
 SinglesAsked files g new before now result = (w : World) (older : List TakenFile) → IsLoaded w older g → AllByRecursion (IsPart files) older
@@ -327,7 +309,7 @@ pub after_merged : (files other : Option Files) (old : World) (size before now :
 after_merged files other old size before now g new result e m asked =
     subst (λ (f : Option Files). SinglesAsked f g new before now result) e asked (record old { size = size }) m.xs
     (subst (λ (xs : List TakenFile). IsLoaded (record old { size = size }) xs g) (append-nil m.xs) m.loaded)
-    (all_weaker (IsBundleTaken size files) (IsPart files) (λ x h. bundle_part size files x h) m.xs m.all.each)
+    (all_weaker (IsBundleTaken size files) (IsPart files) (λ x h. whole_part size files x h) m.xs m.all.each)
 
 -- all was done
 pub whole_done : (files : Option Files) (old world : World) (size : ℕ) (bundles singles : List TakenFile) (g : Stage) (rounded new : World) (puts : List Put) (late : List Slip)

@@ -26,7 +26,6 @@ use Rattle.shelf_load.specs.declared.put_by.Origin.{Origin}
 use Rattle.shelf_load.specs.declared.put_by.Origin.TheVariants.{OwnFile, StoredFile}
 use Rattle.shelf_load.specs.Asides.{Aside}
 use Rattle.shelf_load.specs.Greeting.{IsGreeted, IsOtherType, GreetRefused}
-use Rattle.shelf_load.specs.LoadLaws.{nothing}
 use Rattle.shelf_load.specs.Loading.{TakenFile, all_taken_of, file_kind, first_kind, kind_after, begun, HadRoom, IsLoaded, IsPart, with_block, IsClashAt, LoadRefused}
 use Rattle.shelf_load.specs.Taking.{Stage, Taken, after_block, after_offer, after_put_by, marked_by, stage, taken, take_all, take_one, IsTaken, TakeRefused}
 

@@ -1,5 +1,5 @@
 -- What is counted while blocks are taken, and that none finds the history full where each has room.
-use Rattle.std.proofs.Common.{arith, ◌≡◌, ◌+◌, ◌-◌, ◌^◌, min, cond, ℕ, Bool, true, false, List, [], ◌∷◌, ◌++◌, map, reverse, Option, None, refl, sym, ap, subst, ◌∙◌}
+use Rattle.std.proofs.Common.{arith, ◌≡◌, ◌+◌, ◌-◌, ◌^◌, min, cond, ℕ, Bool, true, false, List, [], ◌∷◌, ◌++◌, reverse, Option, None, refl, sym, ap, subst, ◌∙◌}
 use Rattle.std.proofs.lemmas.List.{reverse-append}
 use Rattle.block_record.specs.declared.blocks.Slip.{Slip}
 use Rattle.dbin_file.specs.Contents.{told}
@@ -9,9 +9,9 @@ use Rattle.store_model.specs.Loads.{Loading, first_full, if_full, is_offered, lo
 use Rattle.shelf_load.specs.declared.put_by.Origin.{Origin}
 use Rattle.shelf_load.specs.declared.put_by.Origin.TheVariants.{OwnFile, StoredFile}
 use Rattle.shelf_load.specs.Asides.{Put, slips_put}
-use Rattle.shelf_load.specs.Taking.{Stage, Taken, after_block, after_offer, after_put_by, marked_by, passed_by, take_all, take_one}
+use Rattle.shelf_load.specs.Taking.{Stage, Taken, after_block, after_offer, after_put_by, marked_by, passed_by, take_all}
 use Rattle.shelf_load.specs.Ending.{lost_by, lost_count}
-use Rattle.shelf_load.specs.LoadLaws.{slips_taken, with_stored}
+use Rattle.shelf_load.specs.LoadLaws.{slips_taken}
 use Rattle.shelf_load.specs.Loading.{HadRoom}
 use Rattle.shelf_load.specs.Load.{early_count, lost_of}
 use Rattle.shelf_load.proofs.LoadingFacts.{Follows, all_follow, offer_answer}

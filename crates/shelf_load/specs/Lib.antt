@@ -8,3 +8,4 @@ pub mod Loading
 pub mod Load
 pub mod Greeting
 pub mod Merging
+pub mod Singling

@@ -1,7 +1,6 @@
 -- What a relay has once a whole shelf was loaded into it, and what is answered.
 use Rattle.std.specs.Prelude.{ℕ, ◌≡◌, ◌≢◌, ◌⊎◌, ◌+◌, List, [], ◌∷◌, length, if◌then◌else◌, Option, None, Some, Result, Ok, Err, ⊤}
 use Rattle.block_record.specs.declared.blocks.Slip.{Slip}
-use Rattle.block_record.specs.declared.blocks.Kind.{Kind}
 use Rattle.dbin_file.specs.Contents.{told}
 use Rattle.outer_world.specs.Files.{Files, AreInOrder, names_of}
 use Rattle.one_block.specs.Layout.{HasLayout, layout_file}

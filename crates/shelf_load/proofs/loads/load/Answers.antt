@@ -1,4 +1,4 @@
-use Rattle.std.proofs.Common.{arith, [], ◌++◌, ◌∙◌, Ok, Err, reverse, map, length, refl, sym, ap}
+use Rattle.std.proofs.Common.{arith, [], ◌++◌, ◌∙◌, Ok, Err, map, length, sym, ap}
 use Rattle.std.proofs.lemmas.List.{length-reverse}
 use Rattle.std.proofs.lemmas.Result.{err_from_is_err_and}
 use Rattle.block_relay.specs.Chronicle.{world_told}

@@ -1,4 +1,4 @@
-use Rattle.std.proofs.Common.{arith, ℕ, List, [], Option, Some, Ok, ap, subst, sym, ◌∙◌}
+use Rattle.std.proofs.Common.{arith, [], Option, Ok, ap, subst, ◌∙◌}
 use Rattle.std.proofs.Math.Nat.{le_refl}
 use Rattle.std.proofs.lemmas.Result.{err_from_is_err_and}
 use Rattle.block_record.specs.declared.blocks.Block.{Block}
