@@ -2,4 +2,10 @@
 pub mod BlockFacts
 pub mod CutFacts
 pub mod CursorFacts
+pub mod ErrorFacts
+pub mod EscapedFacts
+pub mod MemberFacts
+pub mod LineFacts
 pub mod QuotedFacts
+pub mod ReplyFacts
+pub mod StepFacts

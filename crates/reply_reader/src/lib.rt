@@ -5,7 +5,8 @@ mod errors;
 mod lines;
 mod parts;
 mod quoted;
+mod reader;
 mod replies;
 
-pub use lines::read_line;
+pub use reader::read_reply;
 pub use replies::{Reply, ReplyFault};

@@ -2,4 +2,6 @@
 #![tactic(auto)]
 
 #[cfg(test)]
+mod replies;
+#[cfg(test)]
 mod requests;

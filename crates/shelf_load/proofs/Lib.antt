@@ -7,3 +7,14 @@ mod TakingFacts
 mod EndingFacts
 mod MarkFacts
 mod LawFacts
+mod RoomFacts
+mod EntryFacts
+mod PlaceFacts
+mod ShownFacts
+mod LoadFacts
+mod LoadedFacts
+mod ReadingFacts
+mod FilesFacts
+mod NumberFacts
+mod ListedFacts
+mod SingleFacts

@@ -4,3 +4,8 @@ pub mod Asides
 pub mod Taking
 pub mod Ending
 pub mod LoadLaws
+pub mod Loading
+pub mod Load
+pub mod Greeting
+pub mod Merging
+pub mod Singling
