@@ -1,11 +1,10 @@
 -- The file of a block holds the block.
-use Rattle.std.proofs.Common.{◌≡◌, ℕ, List, [], ◌∷◌, ◌++◌, length, Some, None, refl, sym, ◌∙◌, ap, subst, inl}
+use Rattle.std.proofs.Common.{◌≡◌, ℕ, List, [], ◌∷◌, ◌++◌, length, Some, None, refl, sym, ◌∙◌, subst}
 use Rattle.std.proofs.lemmas.List.{append-nil}
 use Rattle.block_record.specs.declared.blocks.Block.{Block}
 use Rattle.block_record.specs.declared.blocks.Kind.{Kind}
 use Rattle.block_record.specs.Texts.{IsTypeName}
 use Rattle.block_record.specs.Records.{IsRecordable, record_text}
-use Rattle.block_record.proofs.public.RecordFacts.{one_record}
 use Rattle.block_record.proofs.public.RecordSizes.{record_small}
 use Rattle.dbin_file.specs.Contents.{Contents, contents, container_text}
 use Rattle.dbin_file.specs.Header.{first_of, header_text}
@@ -13,12 +12,9 @@ use Rattle.dbin_file.specs.Messages.{message_text}
 use Rattle.dbin_file.specs.Laws.{ContainerIsRead}
 use Rattle.dbin_file.specs.Reader.{cut_fault, kept}
 use Rattle.dbin_file.specs.Contents.{place}
-use Rattle.one_block.specs.Containers.{IsRecordOf}
 use Rattle.one_block.specs.Heads.{HoldsBlocks, AreRecordsOf}
 use Rattle.one_block.specs.OneFiles.{one_file_text}
-
-own_record : (b : Block) → IsRecordable b → IsRecordOf (record_text b) b
-own_record b r = record { text = inl refl; recordable = r; only = λ other o is. one_record (record_text b) other b o r is (inl refl) }
+use Rattle.store_files.proofs.public.TextFacts.{own_record}
 
 -- what is read whole has no fault at its end
 no_fault : (total : ℕ) (c : Contents) (block_type : List ℕ) → c.block_type ≡ Some block_type → c.rest ≡ [] → c.fault ≡ None

@@ -1,5 +1,5 @@
 -- Why all bundles are on the shelf once there is no further plan, and what is counted then.
-use Rattle.std.proofs.Common.{arith, ◌≡◌, ◌<◌, ◌≤◌, ◌+◌, ◌*◌, ◌/◌, ◌^◌, ◌⊎◌, inl, inr, ℕ, Bool, true, false, cond, List, [], ◌∷◌, ◌++◌, length, map, reverse, Option, Some, None, refl, sym, ap, subst, ◌∙◌, IsTrue}
+use Rattle.std.proofs.Common.{arith, ◌≡◌, ◌<◌, ◌≤◌, ◌+◌, ◌*◌, ◌/◌, ◌^◌, ◌⊎◌, inl, inr, ℕ, Bool, true, false, List, [], ◌∷◌, ◌++◌, length, map, reverse, Option, Some, None, refl, sym, ap, subst, ◌∙◌, IsTrue}
 use Rattle.std.specs.List.{filter}
 use Rattle.std.specs.Prelude.{IsSomeAnd}
 use Rattle.std.specs.Str.{bytes_eq}
@@ -39,6 +39,7 @@ use Rattle.store_files.specs.Laws.{IsBundleText}
 use Rattle.store_files.proofs.public.TextFacts.{holds_recordable}
 use Rattle.stored_blocks.specs.declared.plans.BundlePlan.{BundlePlan}
 use Rattle.stored_blocks.specs.BundlePlans.{plan_seen}
+use Rattle.stored_blocks.proofs.public.PathFacts.{filter_same}
 use Rattle.bundle_merger.specs.declared.merging.Merged.{Merged}
 use Rattle.bundle_merger.specs.Containers.{blocks_of, bundle_text}
 use Rattle.bundle_merger.specs.MergedFiles.{AreBundleFiles, HasBundleFile, HoldsBundle, IsBegun, MergesAll}
@@ -301,10 +302,6 @@ ended w files some history done g = record {
 }
 
 -- ---- the count
-
-filter_same : (p q : Slip → Bool) (xs : List Slip) → ((x : Slip) → Among xs x → p x ≡ q x) → filter p xs ≡ filter q xs
-filter_same p q [] h = refl
-filter_same p q (x ∷ xs) h = let e = h x (inl refl) in rw e (ap (λ (l : List Slip). cond (q x) (x ∷ l) l) (filter_same p q xs (λ y k. h y (inr k))))
 
 count_reverse : (p : Slip → Bool) (xs : List Slip) → length (filter p (reverse xs)) ≡ length (filter p xs)
 count_reverse p [] = refl

@@ -1,5 +1,5 @@
 -- Why the files of a plan hold its blocks.
-use Rattle.std.proofs.Common.{◌≡◌, ◌<◌, ◌+◌, ℕ, inl, List, [], ◌∷◌, length, take, get_or, map, reverse, refl, sym, subst, None}
+use Rattle.std.proofs.Common.{◌≡◌, ◌<◌, ◌+◌, ℕ, List, [], ◌∷◌, length, take, get_or, map, reverse, refl, sym, subst, None}
 use Rattle.std.specs.Arc.{arc_value}
 use Rattle.std.specs.declared.sync.Arc.{Arc}
 use Rattle.std.specs.List.{AllByRecursion}
@@ -8,14 +8,14 @@ use Rattle.block_record.specs.declared.blocks.Block.{Block}
 use Rattle.block_record.specs.declared.blocks.Kind.{Kind}
 use Rattle.block_record.specs.Records.{IsRecordable, record_text}
 use Rattle.block_record.specs.Texts.{IsTypeName}
-use Rattle.block_record.proofs.public.RecordFacts.{one_record}
 use Rattle.block_record.proofs.public.RecordSizes.{record_small}
 use Rattle.dbin_file.specs.Contents.{contents, container_text}
 use Rattle.dbin_file.specs.Laws.{ContainerIsRead, IsReadAs}
 use Rattle.dbin_file.specs.Messages.{AreMessages}
-use Rattle.one_block.specs.Containers.{IsRecordOf, container_fault}
+use Rattle.one_block.specs.Containers.{container_fault}
 use Rattle.one_block.specs.Heads.{AreRecordsOf, HoldsBlocks}
 use Rattle.bundle_model.proofs.public.MemberFacts.{all_append}
+use Rattle.store_files.proofs.public.TextFacts.{own_record}
 use Rattle.stored_blocks.specs.declared.plans.BundlePlan.{BundlePlan}
 use Rattle.bundle_merger.specs.Containers.{blocks_of}
 use Rattle.bundle_merger.specs.ReadBack.{IsHeldAlone, IsReadBack}
@@ -26,10 +26,6 @@ pub recordable_more : {Z : Type 0} (xs : List (Arc Block Z)) (i : ℕ) (x : Arc 
     → AllByRecursion IsRecordable (blocks_of (take i xs)) → IsRecordable b → AllByRecursion IsRecordable (blocks_of (take (i + 1) xs))
 recordable_more xs i x b within item is before one =
     subst (AllByRecursion IsRecordable) (sym (shared_more xs i x b within item is)) (all_append IsRecordable (blocks_of (take i xs)) (b ∷ []) before (one, tt))
-
--- the record of a block is that of no other
-own_record : (b : Block) → IsRecordable b → IsRecordOf (record_text b) b
-own_record b is = record { text = inl refl; recordable = is; only = λ other r same. one_record (record_text b) other b r is same (inl refl) }
 
 records_of : (bs : List Block) → AllByRecursion IsRecordable bs → AreRecordsOf (map record_text bs) bs
 records_of [] all = tt

@@ -1,5 +1,5 @@
 -- What the files of a folder show, in the order of their numbers and names.
-use Rattle.std.proofs.Common.{arith, ◌≡◌, ◌<◌, ◌⊎◌, inl, inr, ℕ, Bool, true, false, cond, List, [], ◌∷◌, ◌++◌, map, reverse, Option, Some, refl, sym, ap, subst, ◌∙◌, IsTrue, append_assoc}
+use Rattle.std.proofs.Common.{arith, ◌≡◌, ◌<◌, inl, inr, ℕ, Bool, true, false, cond, List, [], ◌∷◌, ◌++◌, map, reverse, Option, Some, refl, sym, ap, subst, ◌∙◌, IsTrue, append_assoc}
 use Rattle.std.specs.Prelude.{IsPermutation, IsSorted}
 use Rattle.std.specs.Option.{unwrap_or}
 use Rattle.std.specs.List.{AllByRecursion}
@@ -8,7 +8,7 @@ use Rattle.std.specs.Cmp.Lexicographic.{slice_cmp, nat_list_cmp_total}
 use Rattle.std.specs.Ordering.{nat_cmp, is_lt, ordering_then}
 use Rattle.std.specs.declared.cmp.Ordering.{Ordering}
 use Rattle.std.specs.declared.cmp.Ordering.TheVariants as order
-use Rattle.std.proofs.lemmas.Bool.{cases_lt, both_ways, lt-ltb, eq-eqb, ne_eqb}
+use Rattle.std.proofs.lemmas.Bool.{both_ways, lt-ltb, eq-eqb, ne_eqb}
 use Rattle.std.proofs.lemmas.List.MinMax.{ranks_by}
 use Rattle.std.proofs.lemmas.List.Sorted.{IsPermutation-trans, IsPermutation-reverse}
 use Rattle.std.proofs.lemmas.Map.Lookups.{exact_unsigned, exact_bytes}
@@ -29,6 +29,7 @@ use Rattle.store_model.specs.Loads.{is_after, insert, in_order}
 use Rattle.store_model.specs.Steps.{with_bundle}
 use Rattle.store_files.specs.Texts.{slips_in}
 use Rattle.store_files.specs.Folders.{in_folder, single, singles_of, with_base, merged_of}
+use Rattle.store_files.proofs.public.BundleFacts.{three}
 use Rattle.store_files.proofs.public.FolderFacts.{File, of_folder, file_at_among}
 use Rattle.shelf_load.specs.Sweeps.{text_at}
 use Rattle.shelf_load.proofs.PlaceFacts.{place, placed, placed_shuffles, placed_all, placed_sorted, reverse_sorted}
@@ -58,9 +59,6 @@ is_behind a b = is_before b a
 
 one_way : (a b : Entry) → is_before a b ≡ true → is_before b a ≡ false
 one_way a b e = (ranks_by entry_total (λ (x : Entry). x)).one_way a b e
-
-three : (a b : ℕ) → (a < b) ⊎ (a ≡ b) ⊎ (b < a)
-three a b = elim (cases_lt a b) [ inl less ↦ inl less | inr more ↦ elim (cases_lt b a) [ inl less ↦ inr (inr less) | inr le ↦ inr (inl (omega (arith, more, le))) ] ]
 
 lower_before : (a b : Entry) → a.0 < b.0 → is_before a b ≡ true
 lower_before a b less = let e = lt-ltb a.0 b.0 less in rw e refl

@@ -2,22 +2,19 @@
 use Rattle.std.proofs.Common.{arith, ◌≡◌, ◌≢◌, ◌≤◌, ◌⊎◌, ◌+◌, cond, inl, inr, ℕ, Bool, true, false, not, ◌&&◌, List, [], ◌∷◌, ◌++◌, length, reverse, Option, Some, None, Result, Ok, refl, sym, ap, subst, ◌∙◌}
 use Rattle.std.specs.List.{AllByRecursion}
 use Rattle.std.specs.Result.{result_unwrap_or}
+use Rattle.std.proofs.Math.Nat.{le_refl}
 use Rattle.std.proofs.lemmas.List.{append-nil, reverse-reverse}
 use Rattle.chain_laws.proofs.public.Growth.{all_weaker}
 use Rattle.block_record.specs.declared.blocks.Slip.{Slip}
 use Rattle.block_record.specs.declared.blocks.Kind.{Kind}
 use Rattle.dbin_file.specs.Contents.{told}
-use Rattle.outer_world.specs.Causes.{Rose}
 use Rattle.outer_world.specs.Files.{Files, AreInOrder, names_of}
 use Rattle.one_block.specs.Layout.{HasLayout, layout_size}
 use Rattle.one_block.specs.declared.faults.StoreFault.TheVariants as store
 use Rattle.shelf_check.specs.declared.faults.LoadFault.{LoadFault}
 use Rattle.shelf_check.specs.declared.faults.LoadFault.TheVariants as fault
 use Rattle.relay_model.specs.Worlds.{World}
-use Rattle.relay_model.specs.Offers.{judge, world_by}
-use Rattle.relay_model.specs.Offers.{kind_after as kind_admitted}
-use Rattle.relay_model.specs.Verdicts.{Verdict}
-use Rattle.relay_model.specs.Verdicts as verdict
+use Rattle.relay_model.specs.Offers.{judge}
 use Rattle.relay_model.specs.Soundness.{IsSound}
 use Rattle.relay_model.proofs.public.Sound.{same_sound}
 use Rattle.bundle_model.specs.Plans.{stored_slips}
@@ -30,38 +27,30 @@ use Rattle.store_files.specs.Folders.{shown_of, size_of}
 use Rattle.store_files.specs.Kept.{IsClean, IsKept, loaded_from}
 use Rattle.store_files.specs.Laws.{LoadKeepsFiles, ReloadsFrom}
 use Rattle.store_files.proofs.public.KeptFacts.{load_keeps_files}
+use Rattle.shelf_load.specs.declared.entries.FileContent.TheVariants.{MergedBlocks}
 use Rattle.shelf_load.specs.declared.loads.Loaded.{Loaded}
 use Rattle.shelf_load.specs.Asides.{Aside, Put, slips_put}
 use Rattle.shelf_load.specs.Taking.{Stage, Taken, stage, take_all}
 use Rattle.shelf_load.specs.Ending.{IsRounded, RoundRefused, is_again, lost_count, offer_round, put_all, put_one, round_at}
 use Rattle.shelf_load.specs.LoadLaws.{IsAlikeStored, IsLoading, AreTaken, all_stored, all_taken, nothing, offered_again, with_stored}
-use Rattle.shelf_load.specs.Loading.{TakenFile, AreBundlesTaken, AreSinglesTaken, HadRoom, AreLoaded, IsBadMerged, IsBadSingleFile, IsBundleTaken, IsLoaded, IsPart, LoadAnswers, LoadRefused, all_taken_of, begun, file_kind, first_kind, kind_after}
+use Rattle.shelf_load.specs.Loading.{TakenFile, AreBundlesTaken, AreSinglesTaken, HadRoom, AreLoaded, IsBundleTaken, IsLoaded, IsPart, LoadAnswers, LoadRefused, all_taken_of, begun, file_kind, first_kind, kind_after}
+use Rattle.shelf_load.specs.Merging.{IsBadMerged}
+use Rattle.shelf_load.specs.Singling.{IsBadSingleFile}
 use Rattle.shelf_load.specs.Load.{IsBadFile, IsCounted, IsFromFiles, IsRefusedLoad, OfTold, Reloads, early_count, loading_from, lost_of, passed_of}
 use Rattle.shelf_load.proofs.LoadingFacts.{Follows, all_follow}
 use Rattle.shelf_load.proofs.LawFacts.{taking_is_loading}
 use Rattle.shelf_load.proofs.RoomFacts.{early_is, lost_is, room_is, told_more}
 use Rattle.shelf_load.proofs.ShownFacts.{shown_taken}
-use Rattle.shelf_load.proofs.FilesFacts.{whole_part}
+use Rattle.shelf_load.proofs.LoadedFacts.{load_on, offer_kind}
+use Rattle.shelf_load.proofs.FilesFacts.{part_of}
 
 -- ---- the kind
-
--- a kind that is kept stays
-admits_kind : (k : Kind) (w : World) (s : Slip) (v : Verdict) → w.kind ≡ Some k → (world_by w s v).kind ≡ Some k
-admits_kind k w s verdict.Closed e = e
-admits_kind k w s verdict.Duplicate e = e
-admits_kind k w s (verdict.Conflict c) e = e
-admits_kind k w s verdict.Early e = e
-admits_kind k w s verdict.Stale e = e
-admits_kind k w s verdict.WaitFull e = e
-admits_kind k w s verdict.Waiting e = e
-admits_kind k w s (verdict.HistoryFull need) e = e
-admits_kind k w s verdict.Admitted e = ap (λ (o : Option Kind). kind_admitted o w.history) e
 
 put_kind : (k : Kind) (r : Round) (p : Put) → r.world.kind ≡ Some k → (put_one r p).world.kind ≡ Some k
 put_kind k r p e = go (not r.over && is_again r.world p)
   where
     go : (b : Bool) → (cond b (offer_round r p.slip) r).world.kind ≡ Some k
-    go true = admits_kind k r.world p.slip (judge r.world p.slip) e
+    go true = offer_kind r.world p.slip (judge r.world p.slip) k e
     go false = e
 
 puts_kind : (k : Kind) (r : Round) (puts : List Put) → r.world.kind ≡ Some k → (put_all r puts).world.kind ≡ Some k
@@ -239,49 +228,20 @@ begins_loaded old world size aside e k = record {
   room = tt;
 }
 
--- a refusal with a weaker cause of a bad file
-weaker : (P Q : List ℕ → ℕ → Type 0) (files : Option Files) (w : World) (before now : ℕ) (refused : LoadFault) → ((name : List ℕ) (at : ℕ) → P name at → Q name at)
-    → LoadRefused P files w before now refused → LoadRefused Q files w before now refused
-weaker P Q files w before now (fault.Store store.ShelfFault) f h = h
-weaker P Q files w before now (fault.Store (store.ShelfBad name at)) f h = f name at h
-weaker P Q files w before now (fault.Store (store.Missing name)) f h = h
-weaker P Q files w before now (fault.Store (store.StoredOther kept read)) f h = h
-weaker P Q files w before now (fault.Store (store.NameClash held other)) f h = h
-weaker P Q files w before now (fault.Store store.Mem) f h = h
-weaker P Q files w before now (fault.KindClash held other) f h = h
-weaker P Q files w before now (fault.HistoryFull len need) f h = h
-
-rose_sooner : (first before now : ℕ) → first ≤ before → Rose before now → Rose first now
-rose_sooner first before now le h = omega (arith, le, h)
-
--- a rise of the count after calls that let it stand or rise
-sooner : (P : List ℕ → ℕ → Type 0) (files : Option Files) (w : World) (first before now : ℕ) (refused : LoadFault) → first ≤ before
-    → LoadRefused P files w before now refused → LoadRefused P files w first now refused
-sooner P files w first before now (fault.Store store.ShelfFault) le h = rose_sooner first before now le h
-sooner P files w first before now (fault.Store (store.ShelfBad name at)) le h = h
-sooner P files w first before now (fault.Store (store.Missing name)) le h = h
-sooner P files w first before now (fault.Store (store.StoredOther kept read)) le h = h
-sooner P files w first before now (fault.Store (store.NameClash held other)) le h = h
-sooner P files w first before now (fault.Store store.Mem) le h = h
-sooner P files w first before now (fault.KindClash held other) le h = h
-sooner P files w first before now (fault.HistoryFull len need) le h = h
-
 pub merged_refused : (files : Option Files) (old : World) (size first before now : ℕ) (refused : LoadFault) → HasLayout files (Ok size) → first ≤ before
-    → LoadRefused (IsBadMerged size files) files (record old { size = size }) before now refused → IsRefusedLoad files old first now refused
+    → LoadRefused (IsBadMerged size files (record old { size = size }) []) files (record old { size = size }) before now refused → IsRefusedLoad files old first now refused
 merged_refused files old size first before now refused layout le h =
-    inl (
-      size,
-      sooner (IsBadFile files) files (record old { size = size }) first before now refused le
-          (weaker (IsBadMerged size files) (IsBadFile files) files (record old { size = size }) before now refused (λ name at bad. inr (inl (size, layout, bad))) h),
-    )
+    let w : World = record old { size = size } in
+    inl (size, load_on (IsBadMerged size files w []) (IsBadFile files w) files w first before now now refused le (le_refl now) (λ name at bad. inr (record { layout = layout; bad = inl bad })) h)
 
-pub singles_refused : (files : Option Files) (old : World) (size first before now : ℕ) (refused : LoadFault) → first ≤ before
-    → LoadRefused (IsBadSingleFile files) files (record old { size = size }) before now refused → IsRefusedLoad files old first now refused
-singles_refused files old size first before now refused le h =
+pub singles_refused : (files : Option Files) (old : World) (size first before now : ℕ) (bundles : List TakenFile) (refused : LoadFault) → HasLayout files (Ok size) → AreBundlesTaken size files bundles → first ≤ before
+    → LoadRefused (IsBadSingleFile files (record old { size = size }) bundles) files (record old { size = size }) before now refused → IsRefusedLoad files old first now refused
+singles_refused files old size first before now bundles refused layout all le h =
+    let w : World = record old { size = size } in
     inl (
       size,
-      sooner (IsBadFile files) files (record old { size = size }) first before now refused le
-          (weaker (IsBadSingleFile files) (IsBadFile files) files (record old { size = size }) before now refused (λ name at bad. inr (inr bad)) h),
+      load_on (IsBadSingleFile files w bundles) (IsBadFile files w) files w first before now now refused le (le_refl now)
+          (λ name at bad. inr (record { layout = layout; bad = inr (record { bundles = bundles; all = all; bad = bad }) })) h,
     )
 
 pub round_refused : (files : Option Files) (old : World) (size first now : ℕ) (xs : List TakenFile) (g : Stage) (refused : LoadFault) → IsLoaded (record old { size = size }) xs g
@@ -301,15 +261,15 @@ round_refused files old size first now xs g (fault.HistoryFull len need) loaded_
 -- what is said of loading the files of one block, after others
 abbrev pub SinglesAsked : Option Files → Stage → Stage → ℕ → ℕ → Result Unit LoadFault → Type 0
 SinglesAsked files g new before now result = (w : World) (older : List TakenFile) → IsLoaded w older g → AllByRecursion (IsPart files) older
-    → LoadAnswers (AreSinglesTaken files) (IsBadSingleFile files) files w older new before now result
+    → LoadAnswers (AreSinglesTaken files) (IsBadSingleFile files w older) files w older new before now result
 
 pub after_merged : (files other : Option Files) (old : World) (size before now : ℕ) (g new : Stage) (result : Result Unit LoadFault) → other ≡ files
     → (m : AreLoaded (AreBundlesTaken size files) (record old { size = size }) [] g) → SinglesAsked other g new before now result
-    → LoadAnswers (AreSinglesTaken files) (IsBadSingleFile files) files (record old { size = size }) m.xs new before now result
+    → LoadAnswers (AreSinglesTaken files) (IsBadSingleFile files (record old { size = size }) m.xs) files (record old { size = size }) m.xs new before now result
 after_merged files other old size before now g new result e m asked =
     subst (λ (f : Option Files). SinglesAsked f g new before now result) e asked (record old { size = size }) m.xs
     (subst (λ (xs : List TakenFile). IsLoaded (record old { size = size }) xs g) (append-nil m.xs) m.loaded)
-    (all_weaker (IsBundleTaken size files) (IsPart files) (λ x h. whole_part size files x h) m.xs m.all.each)
+    (all_weaker (IsBundleTaken size files) (IsPart files) (λ x h. part_of MergedBlocks size files x h) m.xs m.all.each)
 
 -- all was done
 pub whole_done : (files : Option Files) (old world : World) (size : ℕ) (bundles singles : List TakenFile) (g : Stage) (rounded new : World) (puts : List Put) (late : List Slip)

@@ -2,6 +2,7 @@
 use Rattle.std.proofs.Common.{arith, ◌≡◌, ◌≤◌, ◌++◌, ℕ, Bool, true, false, cond, IsTrue, List, [], ◌∷◌, map, Option, Some, None, refl, sym, ap, subst, ◌∙◌}
 use Rattle.std.specs.List.{AllByRecursion}
 use Rattle.std.specs.Option.{option_map}
+use Rattle.std.proofs.lemmas.List.{append-nil}
 use Rattle.block_record.specs.declared.blocks.Block.{Block}
 use Rattle.block_record.specs.declared.blocks.Kind.{Kind}
 use Rattle.block_record.specs.declared.blocks.Slip.{Slip}
@@ -12,7 +13,7 @@ use Rattle.outer_world.specs.Files.{Files}
 use Rattle.outer_world.specs.Shelves.{RefusesBy}
 use Rattle.outer_world.specs.declared.shelves.ShelfFail.{ShelfFail}
 use Rattle.outer_world.specs.declared.shelves.ShelfFail.TheVariants as fail
-use Rattle.file_reader.specs.Reading.{HasFront}
+use Rattle.file_reader.specs.Reading.{HasFront, HasText}
 use Rattle.one_block.specs.StoreFaults.{fault_of}
 use Rattle.one_block.specs.declared.faults.StoreFault.TheVariants as store
 use Rattle.relay_model.specs.Worlds.{World}
@@ -43,7 +44,7 @@ kind_stays : (k : Kind) (history : List Slip) → kept_kind (Some k) history ≡
 kind_stays k history = refl
 
 -- no offer changes a kind that is kept
-offer_kind : (w : World) (s : Slip) (v : Verdict) (k : Kind) → w.kind ≡ Some k → (world_by w s v).kind ≡ Some k
+pub offer_kind : (w : World) (s : Slip) (v : Verdict) (k : Kind) → w.kind ≡ Some k → (world_by w s v).kind ≡ Some k
 offer_kind w s verdict.Closed k e = e
 offer_kind w s verdict.Duplicate k e = e
 offer_kind w s (verdict.Conflict c) k e = e
@@ -112,6 +113,12 @@ loaded_more w older g new x b l t =
 -- the number of a file changes nothing
 pub renumbered : (w : World) (older : List TakenFile) (g : Stage) (x : TakenFile) (num : ℕ) → IsLoaded w (x ∷ older) g → IsLoaded w (record x { num = num } ∷ older) g
 renumbered w older g x num l = record { kind = l.kind; one_kind = l.one_kind; stage_is = l.stage_is; room = l.room }
+
+-- ---- a file that was read whole
+
+pub whole_front : (files : Option Files) (name text : List ℕ) → HasText files name text → HasFront files name text
+whole_front None name text h = tt
+whole_front (Some files) name text h = ([], append-nil text ∙ sym h)
 
 -- ---- refusals
 

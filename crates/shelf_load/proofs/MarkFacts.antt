@@ -21,7 +21,8 @@ use Rattle.bundle_model.proofs.public.StoredFacts.{after_only, after_stays, afte
 use Rattle.store_model.specs.Loads.{is_offered}
 use Rattle.shelf_load.specs.declared.put_by.Origin.{Origin}
 use Rattle.shelf_load.specs.declared.put_by.Origin.TheVariants.{OwnFile, StoredFile}
-use Rattle.shelf_load.specs.Taking.{Stage, Taken, after_block, after_offer, after_put_by, is_found, is_in_history, marked, marked_by, take_all, with_late}
+use Rattle.block_relay.specs.Held.{is_very}
+use Rattle.shelf_load.specs.Taking.{Stage, Taken, after_block, after_offer, after_put_by, is_in_history, marked, marked_by, take_all, with_late}
 use Rattle.shelf_load.specs.LoadLaws.{slips_by, stored_taken}
 
 -- places below a length
@@ -101,7 +102,7 @@ stored_low newest ps s low = go (place_in newest s) refl
 in_history_among : (newest : List Slip) (s : Slip) → is_in_history newest s ≡ true → Among newest s
 in_history_among newest s e = go (find_id newest s.id) refl e
   where
-    go : (o : Option Slip) → find_id newest s.id ≡ o → is_found o s ≡ true → Among newest s
+    go : (o : Option Slip) → find_id newest s.id ≡ o → is_very o s ≡ true → Among newest s
     go None f t = absurd (both_ways _ refl t)
     go (Some h) f t = subst (Among newest) (same_slip_is h s t) (find_is _ newest h f)
 

@@ -26,8 +26,8 @@ use Rattle.shelf_check.specs.declared.faults.LoadFault.TheVariants as fault
 use Rattle.shelf_load.specs.declared.put_by.Origin.TheVariants.{StoredFile}
 use Rattle.shelf_load.specs.Asides.{Aside}
 use Rattle.shelf_load.specs.Greeting.{HeadRefused, IsHeadTold}
-use Rattle.shelf_load.specs.Loading.{TakenFile, IsLoaded, IsPart, with_block, IsBadBundle, LoadRefused}
-use Rattle.shelf_load.specs.Merging.{BlockRefused, BlockAnswers, EndRefused, IsFileLoaded, FileAnswers}
+use Rattle.shelf_load.specs.Loading.{TakenFile, IsLoaded, IsPart, with_block, IsBundleRead, IsBadBundle, LoadRefused, IsFileLoaded, FileAnswers}
+use Rattle.shelf_load.specs.Merging.{BlockRefused, BlockAnswers, EndRefused}
 use Rattle.shelf_load.specs.Taking.{Stage, stage, taken, IsTaken, TakeRefused}
 use Rattle.shelf_load.proofs.LoadedFacts.{loaded_head, loaded_more, take_refused, greet_refused}
 
@@ -71,7 +71,7 @@ module _ (files : Option Files) (r : FileState) (front : List ℕ) (given : List
   typed_front block_type e = sym (ap (λ (s : ReaderState). s.block_type) h.state) ∙ e
 
   pub head_answers : (name : List ℕ) (w : World) (older : List TakenFile) (old new : Stage) (before now : ℕ) (refused : LoadFault) → r.name ≡ name → IsLoaded w older old → AllByRecursion (IsPart files) older
-      → HeadRefused old.world r r.reader.block_type refused → FileAnswers files name w older new before now (Err refused)
+      → HeadRefused old.world r r.reader.block_type refused → FileAnswers (IsBundleRead files) (IsBadBundle files) files name w older new before now (Err refused)
   head_answers name w older old new before now refused named l parts g = by_type r.reader.block_type refl g
     where
       untyped : (refused : LoadFault) → r.reader.block_type ≡ None → HeadRefused old.world r None refused → LoadRefused (IsBadNamed files name) files w before now refused
@@ -186,7 +186,7 @@ module _ (files : Option Files) (name : List ℕ) (old now : Stage) (r : FileSta
   message_refused w before later m more (fault.KindClash held other) e b = absurd b
   message_refused w before later m more (fault.HistoryFull len need) e b = absurd b
 
-  pub block_refused : (w : World) (older : List TakenFile) (new : Stage) (before later : ℕ) (refused : LoadFault) → BlockAnswers r r.left (Err refused) → FileAnswers files name w older new before later (Err refused)
+  pub block_refused : (w : World) (older : List TakenFile) (new : Stage) (before later : ℕ) (refused : LoadFault) → BlockAnswers r r.left (Err refused) → FileAnswers (IsBundleRead files) (IsBadBundle files) files name w older new before later (Err refused)
   block_refused w older new before later refused answer = by_left r.left refl
     where
       by_left : (ms : List (List ℕ)) → r.left ≡ ms → LoadRefused (IsBadNamed files name) files w before later refused
@@ -211,7 +211,7 @@ module _ (files : Option Files) (name : List ℕ) (old now : Stage) (r : FileSta
 
     -- it was not taken
     pub not_taken : (w : World) (older : List TakenFile) (new : Stage) (before later : ℕ) (refused : LoadFault) → IsLoaded w older old → AllByRecursion (IsPart files) older → TakeRefused now (taken (slip b) StoredFile) refused
-        → FileAnswers files name w older new before later (Err refused)
+        → FileAnswers (IsBundleRead files) (IsBadBundle files) files name w older new before later (Err refused)
     not_taken w older new before later refused l parts t =
         take_refused (IsBadNamed files name) files w before later older now (part name g.front g.block_type g.blocks) b refused (g.loaded g.front w older l) (with_next, parts) t
 
@@ -273,7 +273,7 @@ module _ (files : Option Files) (name : List ℕ) (old now : Stage) (r : FileSta
     not_ended (inl none) = inl (sym g.some_is ∙ none)
     not_ended (inr bad) = inr (ap (λ (o : Option DbinFault). is_some o) all.fault ∙ bad)
 
-    pub end_refused : (w : World) (older : List TakenFile) (new : Stage) (before later : ℕ) (refused : LoadFault) → EndRefused r some refused → FileAnswers files name w older new before later (Err refused)
+    pub end_refused : (w : World) (older : List TakenFile) (new : Stage) (before later : ℕ) (refused : LoadFault) → EndRefused r some refused → FileAnswers (IsBundleRead files) (IsBadBundle files) files name w older new before later (Err refused)
     end_refused w older new before later (fault.Store store.ShelfFault) e = absurd e
     end_refused w older new before later (fault.Store (store.ShelfBad bad at)) e =
         (e.0 ∙ g.named, record { text = all.text; there = there; bad = inr (inr (record { block_type = g.block_type; typed = all.typed ∙ g.typed; blocks = g.blocks; records = records; ends = not_ended e.2; place = e.1 ∙ end_is files r g.given all })) })
@@ -284,13 +284,10 @@ module _ (files : Option Files) (name : List ℕ) (old now : Stage) (r : FileSta
     end_refused w older new before later (fault.KindClash held other) e = absurd e
     end_refused w older new before later (fault.HistoryFull len need) e = absurd e
 
-    pub file_whole : (w : World) (older : List TakenFile) → IsLoaded w older old → IsTrue some → end_fault r.reader ≡ None → IsFileLoaded files name w older now
+    pub file_whole : (w : World) (older : List TakenFile) → IsLoaded w older old → IsTrue some → end_fault r.reader ≡ None → IsFileLoaded (IsBundleRead files) name w older now
     file_whole w older l any fine = record {
       x = part name all.text g.block_type g.blocks;
       name_is = refl;
-      origin_is = refl;
-      there = there;
-      holds = record { typed = all.typed ∙ g.typed; records = records; whole = all.fault ∙ fine };
-      some = sym g.some_is ∙ any;
+      read = record { origin_is = refl; there = there; holds = record { typed = all.typed ∙ g.typed; records = records; whole = all.fault ∙ fine }; some = sym g.some_is ∙ any };
       loaded = g.loaded all.text w older l;
     }

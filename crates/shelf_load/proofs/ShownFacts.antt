@@ -24,7 +24,7 @@ use Rattle.relay_model.specs.Soundness.{IsBlock}
 use Rattle.bundle_model.specs.Members.{Among}
 use Rattle.bundle_model.specs.Bundles.{Bundle, blocks_of}
 use Rattle.bundle_model.proofs.public.BundleFacts.{blocks_append}
-use Rattle.bundle_model.proofs.public.MemberFacts.{among_all, all_among, among_left, among_right, among_parts, reverse-push, among_reverse, reverse_among, among_map, map_among, all_append}
+use Rattle.bundle_model.proofs.public.MemberFacts.{among_all, all_among, among_left, among_right, among_parts, among_reverse, reverse_among, among_map, map_among, all_append}
 use Rattle.store_model.specs.Shown.{Single, slips}
 use Rattle.store_model.specs.Loads.{in_order}
 use Rattle.store_model.specs.Loads.{taken as taken_of}
@@ -40,14 +40,12 @@ use Rattle.shelf_load.specs.LoadLaws.{slips_taken, slips_by, stored_taken, AreTa
 use Rattle.shelf_load.specs.Loading.{TakenFile, file_taken, all_taken_of, entries_of, IsBundleTaken, origin_of, IsSingleTaken, AreOrdered, AreBundlesTaken, AreSinglesTaken}
 use Rattle.shelf_load.proofs.EntryFacts.{placed_are, placed_behind, is_behind, key, order_keys, order_all, shown_under, IsAlone, IsShownAlone, single_keys, bundle_of, merged_placed, folder_texts, folder_names, singles_append}
 use Rattle.shelf_load.proofs.PlaceFacts.{placed}
+use Rattle.shelf_load.proofs.FilesFacts.{entries_more}
 
 -- ---- lists of files that were taken
 
 abbrev entry_of : TakenFile → Entry
 entry_of x = (x.num, x.name)
-
-entries_more : (x : TakenFile) (older : List TakenFile) → entries_of (x ∷ older) ≡ entries_of older ++ entry_of x ∷ []
-entries_more x older = ap (map entry_of) (reverse-push x older) ∙ map-append entry_of (reverse older) (x ∷ [])
 
 entries_back : (xs : List TakenFile) → reverse (entries_of xs) ≡ map entry_of xs
 entries_back xs = sym (map_reverse entry_of (reverse xs)) ∙ ap (map entry_of) (reverse-reverse xs)
@@ -140,7 +138,7 @@ stored_block xs x b h k e = in_stored (all_taken_of xs) (taken (slip b) x.origin
 -- ---- files of merged blocks
 
 bundle_shows : (size : ℕ) (files : Files) (x : TakenFile) → IsBundleTaken size (Some files) x → shown_under files x.name ≡ map slip (reverse x.blocks)
-bundle_shows size files x t = ap slips_in t.there ∙ holds_shows x.text x.block_type x.blocks t.holds
+bundle_shows size files x t = ap slips_in t.read.there ∙ holds_shows x.text x.block_type x.blocks t.read.holds
 
 -- turned over, what they show is what was taken
 bundles_taken : (size : ℕ) (files : Files) (xs : List TakenFile) → AllByRecursion (IsBundleTaken size (Some files)) xs → reverse (blocks_of (map (bundle_of files) (entries_of xs))) ≡ slips_taken (all_taken_of xs)
@@ -151,7 +149,7 @@ bundles_taken size files (x ∷ older) each =
     let own : reverse (shown_under files x.name) ≡ map slip x.blocks =
     ap reverse (bundle_shows size files x each.0) ∙ sym (map_reverse slip (reverse x.blocks)) ∙ ap (map slip) (reverse-reverse x.blocks) in
     let parted : map (bundle_of files) (entries_of (x ∷ older)) ≡ before ++ last ∷ [] =
-    ap (map (bundle_of files)) (entries_more x older) ∙ map-append (bundle_of files) (entries_of older) (entry_of x ∷ []) in
+    ap (map (bundle_of files)) (entries_more older x) ∙ map-append (bundle_of files) (entries_of older) (entry_of x ∷ []) in
     let blocks : blocks_of (map (bundle_of files) (entries_of (x ∷ older))) ≡ blocks_of before ++ shown_under files x.name =
     ap blocks_of parted ∙ blocks_append before (last ∷ []) ∙ ap (λ (l : List Slip). blocks_of before ++ l) (append-nil (shown_under files x.name)) in
     ap reverse blocks ∙ reverse-append (blocks_of before) (shown_under files x.name)
@@ -363,7 +361,7 @@ shown_taken files bundles singles order b s = record { all = all; blocks = block
           | inl k ↦
               let m = map_among (λ (u : Taken). u.slip) (all_taken_of bundles) x (subst (λ (l : List Slip). Among l x) shown (among_reverse (blocks_of merged) x k)) in
               let t = taken_in bundles m.0 m.1 in
-              let origin : t.x.origin ≡ StoredFile = (among_all (IsBundleTaken (size_of files) (Some files)) bundles b.each t.x t.there).origin_is in
+              let origin : t.x.origin ≡ StoredFile = (among_all (IsBundleTaken (size_of files) (Some files)) bundles b.each t.x t.there).read.origin_is in
               subst (Among (stored_taken (all_taken_of (singles ++ bundles)))) (ap (λ (u : Taken). u.slip) t.is ∙ m.2)
               (stored_block (singles ++ bundles) t.x t.block (among_right singles bundles t.x t.there) t.has origin)
           | inr k ↦

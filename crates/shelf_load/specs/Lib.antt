@@ -9,3 +9,4 @@ pub mod Load
 pub mod Greeting
 pub mod Merging
 pub mod Singling
+pub mod Entries

@@ -18,7 +18,9 @@ use Rattle.shelf_load.specs.declared.loads.Loaded.{Loaded}
 use Rattle.shelf_load.specs.Taking.{Stage, passed_by}
 use Rattle.shelf_load.specs.Ending.{lost_by, put_all, round_at}
 use Rattle.shelf_load.specs.LoadLaws.{IsAlikeStored}
-use Rattle.shelf_load.specs.Loading.{TakenFile, IsLoaded, IsBadMerged, IsBadSingleFile, LoadRefused}
+use Rattle.shelf_load.specs.Loading.{TakenFile, AreBundlesTaken, IsLoaded, LoadRefused}
+use Rattle.shelf_load.specs.Merging.{IsBadMerged}
+use Rattle.shelf_load.specs.Singling.{IsBadSingleFile}
 
 -- how many of these blocks, the last one first, were too early or too late when they were taken
 abbrev pub early_count : Loading → List Slip → ℕ
@@ -63,11 +65,20 @@ abbrev pub Reloads : Option Files → World → World → Type 0
 Reloads None first new = ⊤
 Reloads (Some files) first new = (old : World) → IsSound old → IsKept files old → IsClean old.first files old.history → first.first ≡ old.first → ReloadsFrom files old new
 
--- the layout of the shelf, or one of its files, is bad first at this place
-abbrev pub IsBadFile : Option Files → List ℕ → ℕ → Type 0
-IsBadFile files name at =
-    ((name ≡ layout_file) × HasLayout files (Err at))
-    ⊎ (((size : ℕ) × HasLayout files (Ok size) × IsBadMerged size files name at) ⊎ IsBadSingleFile files name at)
+-- all files of merged blocks were read whole, and of those of `forked/` and `one/` this is the first bad one
+pub record IsBadAfterMerged (size : ℕ) (files : Option Files) (w : World) (name : List ℕ) (at : ℕ) : Type 0 where
+  pub bundles : List TakenFile
+  pub all : AreBundlesTaken size files bundles
+  pub bad : IsBadSingleFile files w bundles name at
+
+-- after a layout that was read, this is the first bad file in the order of loading
+pub record IsBadAfterLayout (files : Option Files) (w : World) (name : List ℕ) (at : ℕ) : Type 0 where
+  pub layout : HasLayout files (Ok w.size)
+  pub bad : IsBadMerged w.size files w [] name at ⊎ IsBadAfterMerged w.size files w name at
+
+-- the layout of the shelf, or this file of it, is the first bad one in the order of loading into this world, and bad first at this place
+abbrev pub IsBadFile : Option Files → World → List ℕ → ℕ → Type 0
+IsBadFile files w name at = ((name ≡ layout_file) × HasLayout files (Err at)) ⊎ IsBadAfterLayout files w name at
 
 -- all blocks were taken, and one of those that were put by was refused, since the history has no room for what it brings
 pub record IsFullAgain (files : Option Files) (w : World) (refused : LoadFault) : Type 0 where
@@ -83,7 +94,7 @@ pub record IsFullAgain (files : Option Files) (w : World) (refused : LoadFault) 
 -- why a shelf was not loaded
 abbrev pub IsRefusedLoad : Option Files → World → ℕ → ℕ → LoadFault → Type 0
 IsRefusedLoad files w before now refused =
-    ((size : ℕ) × LoadRefused (IsBadFile files) files (record w { size = size }) before now refused) ⊎ IsFullAgain files w refused
+    ((size : ℕ) × LoadRefused (IsBadFile files (record w { size = size })) files (record w { size = size }) before now refused) ⊎ IsFullAgain files w refused
 
 -- what is answered where a shelf is loaded into an empty relay
 abbrev pub ShelfAnswers : Option Files → World → World → ℕ → ℕ → Result Loaded LoadFault → Type 0

@@ -14,7 +14,6 @@ use Rattle.file_reader.specs.Reading.{HasFront, HasText}
 use Rattle.one_block.specs.Files.{base_in, folder_of_size}
 use Rattle.one_block.specs.Containers.{container_fault, empty_place, IsNoRecord}
 use Rattle.one_block.specs.Heads.{AreRecords, HoldsBlocks, IsBadHead}
-use Rattle.one_block.specs.declared.file_faults.FileFault.TheVariants.{Bad}
 use Rattle.one_block.specs.Forms.{form_of}
 use Rattle.one_block.specs.Singles.{IsSingleOf}
 use Rattle.one_block.specs.declared.faults.StoreFault.TheVariants as store
@@ -25,7 +24,6 @@ use Rattle.relay_model.specs.Worlds.{World}
 use Rattle.relay_model.specs.Offers.{HistoryFull, offered}
 use Rattle.block_relay.specs.Chronicle.{may_greet}
 use Rattle.shelf_check.specs.Folders.{folder_text}
-use Rattle.shelf_check.specs.Singles.{SingleAnswers}
 use Rattle.shelf_check.specs.Merged.{Entry, entry_order}
 use Rattle.shelf_check.specs.declared.faults.LoadFault.{LoadFault}
 use Rattle.shelf_check.specs.declared.faults.LoadFault.TheVariants as fault
@@ -93,12 +91,16 @@ pub record IsLoaded (w : World) (xs : List TakenFile) (g : Stage) : Type 0 where
   pub room : HadRoom (begun w (kind_after w.kind xs)) (all_taken_of xs)
 
 -- a file of merged blocks was read whole
-pub record IsBundleTaken (size : ℕ) (files : Option Files) (x : TakenFile) : Type 0 where
+pub record IsBundleRead (files : Option Files) (x : TakenFile) : Type 0 where
   pub origin_is : x.origin ≡ StoredFile
-  pub based : base_in size x.name ≡ Some x.num
   pub there : HasText files x.name x.text
   pub holds : HoldsBlocks x.text x.block_type x.blocks
   pub some : IsTrue (nat_lt 0 (length x.blocks))
+
+-- the same, and its number is the base in its name
+pub record IsBundleTaken (size : ℕ) (files : Option Files) (x : TakenFile) : Type 0 where
+  pub based : base_in size x.name ≡ Some x.num
+  pub read : IsBundleRead files x
 
 -- where the blocks of a folder are read
 abbrev pub origin_of : Folder → Origin
@@ -198,14 +200,6 @@ abbrev pub LoadAnswers : (List TakenFile → Type 0) → (List ℕ → ℕ → T
 LoadAnswers AreAll IsBad files w older new before now (Ok u) = AreLoaded AreAll w older new
 LoadAnswers AreAll IsBad files w older new before now (Err refused) = LoadRefused IsBad files w before now refused
 
--- the shelf listed this name in a folder
-pub record IsListedIn (files : Option Files) (folder name : List ℕ) : Type 0 where
-  pub names : List (List ℕ)
-  pub front : List (List ℕ)
-  pub more : List (List ℕ)
-  pub listed : AreNamesOf files folder names
-  pub names_are : names ≡ front ++ name ∷ more
-
 -- after messages that are the records of these blocks stands one that is no record, with its first bad field at this place
 pub record IsBadRecord (text : List ℕ) (at : ℕ) : Type 0 where
   pub block_type : List ℕ
@@ -233,18 +227,37 @@ pub record IsBadBundle (files : Option Files) (name : List ℕ) (at : ℕ) : Typ
   pub there : HasText files name text
   pub bad : IsBadHead text at ⊎ (IsBadRecord text at ⊎ IsBadEnd text at)
 
--- a file of merged blocks of this size is bad first at this place
-pub record IsBadMerged (size : ℕ) (files : Option Files) (name : List ℕ) (at : ℕ) : Type 0 where
-  pub listed : IsListedIn files (folder_of_size size) name
-  pub bad : ((base_in size name ≡ None) × (at ≡ 0)) ⊎ IsBadBundle files name at
+-- the file of this name was read whole, and its blocks were taken after those of others
+pub record IsFileLoaded (IsRead : TakenFile → Type 0) (name : List ℕ) (w : World) (older : List TakenFile) (new : Stage) : Type 0 where
+  pub x : TakenFile
+  pub name_is : x.name ≡ name
+  pub read : IsRead x
+  pub loaded : IsLoaded w (x ∷ older) new
 
--- the file of this name in this folder has a name or a text that is bad first at this place
-pub record IsBadIn (folder : Folder) (files : Option Files) (name : List ℕ) (at : ℕ) : Type 0 where
-  pub listed : IsListedIn files (folder_text folder) name
-  pub text : List ℕ
-  pub there : HasText files name text
-  pub bad : SingleAnswers folder name text None (Err (Bad at))
+-- what is answered to the file of this name
+abbrev pub FileAnswers : (TakenFile → Type 0) → (List ℕ → ℕ → Type 0) → Option Files → List ℕ → World → List TakenFile → Stage → ℕ → ℕ → Result Unit LoadFault → Type 0
+FileAnswers IsRead IsBad files name w older new before now (Ok u) = IsFileLoaded IsRead name w older new
+FileAnswers IsRead IsBad files name w older new before now (Err refused) = LoadRefused (λ bad at. (bad ≡ name) × IsBad name at) files w before now refused
 
--- one of `forked/` or of `one/`
-abbrev pub IsBadSingleFile : Option Files → List ℕ → ℕ → Type 0
-IsBadSingleFile files name at = IsBadIn Forked files name at ⊎ IsBadIn One files name at
+-- these files were read whole, and their blocks were taken after those of others
+pub record AreFilesLoaded (IsRead : TakenFile → Type 0) (entries : List Entry) (w : World) (older : List TakenFile) (new : Stage) : Type 0 where
+  pub xs : List TakenFile
+  pub entries_are : entries ≡ entries_of xs
+  pub each : AllByRecursion IsRead xs
+  pub loaded : IsLoaded w (xs ++ older) new
+
+-- the first of these files were read whole, and their blocks were taken after those of others; the next one is bad first at this place
+pub record IsFirstBad (IsRead : TakenFile → Type 0) (IsBad : List ℕ → ℕ → Type 0) (entries : List Entry) (w : World) (older : List TakenFile) (name : List ℕ) (at : ℕ) : Type 0 where
+  pub xs : List TakenFile
+  pub num : ℕ
+  pub more : List Entry
+  pub entries_are : entries ≡ entries_of xs ++ (num, name) ∷ more
+  pub each : AllByRecursion IsRead xs
+  pub g : Stage
+  pub loaded : IsLoaded w (xs ++ older) g
+  pub bad : IsBad name at
+
+-- what is answered to these files
+abbrev pub EntriesAnswer : (TakenFile → Type 0) → (List ℕ → ℕ → Type 0) → Option Files → List Entry → World → List TakenFile → Stage → ℕ → ℕ → Result Unit LoadFault → Type 0
+EntriesAnswer IsRead IsBad files entries w older new before now (Ok u) = AreFilesLoaded IsRead entries w older new
+EntriesAnswer IsRead IsBad files entries w older new before now (Err refused) = LoadRefused (IsFirstBad IsRead IsBad entries w older) files w before now refused

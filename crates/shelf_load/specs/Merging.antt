@@ -1,23 +1,21 @@
--- The steps by which the files of merged blocks are loaded.
-use Rattle.std.specs.Prelude.{ℕ, ◌≡◌, ◌++◌, ◌⊎◌, Bool, IsTrue, IsFalse, nat_lt, List, [], ◌∷◌, length, Option, None, Some, ⊤, Result, Ok, Err}
+-- The steps by which a file of merged blocks is loaded, and the first of them that is bad.
+use Rattle.std.specs.Prelude.{ℕ, ◌≡◌, ◌⊎◌, Bool, IsTrue, IsFalse, List, [], ◌∷◌, Option, None, Some, ⊤, Result, Ok, Err}
 use Rattle.std.specs.Option.{is_some}
-use Rattle.std.specs.List.{AllByRecursion, Contains}
 use Rattle.block_record.specs.declared.blocks.Block.{Block}
 use Rattle.dbin_file.specs.Reader.{end_fault}
 use Rattle.outer_world.specs.Files.{Files}
-use Rattle.file_reader.specs.Reading.{FileState, HasText}
+use Rattle.outer_world.specs.Shelves.{AreNamesOf}
+use Rattle.file_reader.specs.Reading.{FileState}
 use Rattle.one_block.specs.Containers.{IsRecordOf, IsNoRecord}
-use Rattle.one_block.specs.Files.{base_in}
-use Rattle.one_block.specs.Heads.{HoldsBlocks}
+use Rattle.one_block.specs.Files.{base_in, folder_of_size}
+use Rattle.one_block.specs.declared.file_faults.FileFault.TheVariants.{Bad}
 use Rattle.one_block.specs.declared.faults.StoreFault.TheVariants as store
 use Rattle.relay_model.specs.Worlds.{World}
-use Rattle.shelf_check.specs.Merged.{Entry}
+use Rattle.shelf_check.specs.Merged.{Entry, AreOrdered, IsOtherName}
 use Rattle.shelf_check.specs.Steps.{end_of, next_record_place}
 use Rattle.shelf_check.specs.declared.faults.LoadFault.{LoadFault}
 use Rattle.shelf_check.specs.declared.faults.LoadFault.TheVariants as fault
-use Rattle.shelf_load.specs.declared.put_by.Origin.TheVariants.{StoredFile}
-use Rattle.shelf_load.specs.Taking.{Stage}
-use Rattle.shelf_load.specs.Loading.{TakenFile, entries_of, IsLoaded, IsBundleTaken, IsBadBundle, LoadRefused}
+use Rattle.shelf_load.specs.Loading.{TakenFile, IsBundleTaken, IsBadBundle, IsFirstBad}
 
 -- a message that stands at this place in the file of this name is no record
 abbrev pub BlockRefused : ℕ → List ℕ → List ℕ → LoadFault → Type 0
@@ -53,40 +51,18 @@ abbrev pub EndAnswers : FileState → Bool → Result Unit LoadFault → Type 0
 EndAnswers r some (Ok u) = IsTrue some × (end_fault r.reader ≡ None)
 EndAnswers r some (Err refused) = EndRefused r some refused
 
--- the file of this name was read whole, and its blocks were taken after those of others
-pub record IsFileLoaded (files : Option Files) (name : List ℕ) (w : World) (older : List TakenFile) (new : Stage) : Type 0 where
-  pub x : TakenFile
-  pub name_is : x.name ≡ name
-  pub origin_is : x.origin ≡ StoredFile
-  pub there : HasText files x.name x.text
-  pub holds : HoldsBlocks x.text x.block_type x.blocks
-  pub some : IsTrue (nat_lt 0 (length x.blocks))
-  pub loaded : IsLoaded w (x ∷ older) new
-
--- what is answered to the file of this name
-abbrev pub FileAnswers : Option Files → List ℕ → World → List TakenFile → Stage → ℕ → ℕ → Result Unit LoadFault → Type 0
-FileAnswers files name w older new before now (Ok u) = IsFileLoaded files name w older new
-FileAnswers files name w older new before now (Err refused) = LoadRefused (λ bad at. (bad ≡ name) × IsBadBundle files name at) files w before now refused
-
 -- a file has its base
 abbrev pub HasBase : ℕ → Entry → Type 0
 HasBase size e = base_in size e.1 ≡ Some e.0
 
--- one of these files is bad at this place
-pub record IsBadAmong (files : Option Files) (entries : List Entry) (name : List ℕ) (at : ℕ) : Type 0 where
-  pub entry : Entry
-  pub among : Contains entries entry
-  pub name_is : name ≡ entry.1
-  pub bad : IsBadBundle files name at
+-- of the files of these names, in their order, this is the first bad one
+pub record IsFirstBundle (size : ℕ) (files : Option Files) (names : List (List ℕ)) (w : World) (older : List TakenFile) (name : List ℕ) (at : ℕ) : Type 0 where
+  pub entries : List Entry
+  pub ordered : AreOrdered size names entries
+  pub first : IsFirstBad (IsBundleTaken size files) (IsBadBundle files) entries w older name at
 
--- these files were read whole, and their blocks were taken after those of others
-pub record AreFilesLoaded (size : ℕ) (files : Option Files) (entries : List Entry) (w : World) (older : List TakenFile) (new : Stage) : Type 0 where
-  pub xs : List TakenFile
-  pub entries_are : entries ≡ entries_of xs
-  pub each : AllByRecursion (IsBundleTaken size files) xs
-  pub loaded : IsLoaded w (xs ++ older) new
-
--- what is answered to these files
-abbrev pub FilesAnswer : ℕ → Option Files → List Entry → World → List TakenFile → Stage → ℕ → ℕ → Result Unit LoadFault → Type 0
-FilesAnswer size files entries w older new before now (Ok u) = AreFilesLoaded size files entries w older new
-FilesAnswer size files entries w older new before now (Err refused) = LoadRefused (IsBadAmong files entries) files w before now refused
+-- of the files of merged blocks of this size this is the first bad one, and it is bad first at this place: all names are read before a file is
+pub record IsBadMerged (size : ℕ) (files : Option Files) (w : World) (older : List TakenFile) (name : List ℕ) (at : ℕ) : Type 0 where
+  pub names : List (List ℕ)
+  pub listed : AreNamesOf files (folder_of_size size) names
+  pub first : IsOtherName size names name (Bad at) ⊎ IsFirstBundle size files names w older name at

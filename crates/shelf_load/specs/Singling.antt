@@ -1,6 +1,6 @@
--- The steps by which the files of `forked/` and `one/` are loaded.
+-- The steps by which the files of `forked/` and `one/` are listed and one is loaded, and the first of them that is bad.
 use Rattle.std.specs.Prelude.{ℕ, ◌≡◌, ◌==◌, ◌++◌, ◌⊎◌, IsTrue, List, [], ◌∷◌, map, take, codes, if◌then◌else◌, Option, None, Some, ⊤, Result, Ok, Err, option_and_then, IsPermutation, IsSorted}
-use Rattle.std.specs.List.{AllByRecursion, All, position}
+use Rattle.std.specs.List.{All, position}
 use Rattle.std.specs.Global.{Vec}
 use Rattle.block_record.specs.declared.blocks.Block.{Block}
 use Rattle.outer_world.specs.Files.{Files, is_in}
@@ -23,7 +23,7 @@ use Rattle.shelf_check.specs.Singles.{SingleAnswers}
 use Rattle.shelf_check.specs.declared.faults.LoadFault.{LoadFault}
 use Rattle.shelf_check.specs.declared.faults.LoadFault.TheVariants as fault
 use Rattle.shelf_load.specs.Greeting.{IsGreeted, GreetRefused}
-use Rattle.shelf_load.specs.Loading.{TakenFile, entries_of, origin_of, IsLoaded, IsSingleTaken, IsListedIn, IsBadIn, IsBadSingleFile, LoadRefused}
+use Rattle.shelf_load.specs.Loading.{TakenFile, origin_of, IsSingleTaken, IsFirstBad, LoadRefused}
 use Rattle.shelf_load.specs.Taking.{Stage, Taken, stage, IsTaken, TakeRefused}
 
 -- the number that a name without folder and ending has before this place
@@ -57,11 +57,12 @@ pub record IsGrown (names : List (List ℕ)) (old new : List Entry) : Type 0 whe
   pub grown : new ≡ old ++ found
   pub numbered : AreNumbered names found
 
--- one of these names has no number
+-- the first of these names that has no number
 pub record IsUnnumbered (names : List (List ℕ)) (name : List ℕ) (at : ℕ) : Type 0 where
-  pub front : List (List ℕ)
+  pub found : List Entry
   pub more : List (List ℕ)
-  pub names_are : names ≡ front ++ name ∷ more
+  pub names_are : names ≡ map (λ e. e.1) found ++ name ∷ more
+  pub numbers : All HasNumber found
   pub none : number_in name ≡ None
   pub place : at ≡ 0
 
@@ -87,16 +88,22 @@ pub record HasFolder (folder : Folder) (files : Option Files) (old new : List En
   pub listed : AreNamesOf files (folder_text folder) names
   pub grown : IsGrown names old new
 
+-- the first name of a folder that has no number, and so is that of no file of one block
+pub record IsUnnumberedIn (folder : Folder) (files : Option Files) (name : List ℕ) (at : ℕ) : Type 0 where
+  pub names : List (List ℕ)
+  pub listed : AreNamesOf files (folder_text folder) names
+  pub first : IsUnnumbered names name at
+  pub no_form : form_of folder name ≡ None
+
 -- what is answered to a folder whose names are added
 abbrev pub FolderAnswers : Folder → Option Files → List Entry → List Entry → ℕ → ℕ → Result Unit LoadFault → Type 0
 FolderAnswers folder files old new before now (Ok u) = HasFolder folder files old new
-FolderAnswers folder files old new before now (Err refused) = (w : World) → LoadRefused (IsBadIn folder files) files w before now refused
+FolderAnswers folder files old new before now (Err refused) = (w : World) → LoadRefused (IsUnnumberedIn folder files) files w before now refused
 
--- a name has a number, and is listed in its folder
-pub record IsEntry (files : Option Files) (e : Entry) : Type 0 where
+-- a name has a number, and lies in its folder
+pub record IsEntry (e : Entry) : Type 0 where
   pub number : HasNumber e
   pub inside : IsTrue (is_in (folder_text (folder_of e.1)) e.1)
-  pub listed : IsListedIn files (folder_text (folder_of e.1)) e.1
 
 -- these are the numbers and names of all files of `forked/` and `one/`, in their order
 pub record AreListed (files : Option Files) (entries : List Entry) : Type 0 where
@@ -106,14 +113,25 @@ pub record AreListed (files : Option Files) (entries : List Entry) : Type 0 wher
   pub one_listed : AreNamesOf files (codes "one") one
   pub found : List Entry
   pub names_are : forked ++ one ≡ map (λ e. e.1) found
-  pub each : All (IsEntry files) entries
+  pub each : All IsEntry entries
   pub all : IsPermutation found entries
   pub in_order : IsSorted entry_order entries
+
+-- each name of a folder has a number
+pub record AreNumberedIn (folder : Folder) (files : Option Files) : Type 0 where
+  pub names : List (List ℕ)
+  pub listed : AreNamesOf files (folder_text folder) names
+  pub found : List Entry
+  pub numbered : AreNumbered names found
+
+-- the first name of `forked/`, and then of `one/`, that has no number
+abbrev pub IsUnlisted : Option Files → List ℕ → ℕ → Type 0
+IsUnlisted files name at = IsUnnumberedIn Forked files name at ⊎ (AreNumberedIn Forked files × IsUnnumberedIn One files name at)
 
 -- what is answered where both folders are listed
 abbrev pub ListAnswers : Option Files → ℕ → ℕ → Result (Vec Entry) LoadFault → Type 0
 ListAnswers files before now (Ok entries) = AreListed files entries.items
-ListAnswers files before now (Err refused) = (w : World) → LoadRefused (IsBadSingleFile files) files w before now refused
+ListAnswers files before now (Err refused) = (w : World) → LoadRefused (IsUnlisted files) files w before now refused
 
 -- a file's type was told, and its block was taken
 pub record IsToldAndTaken (old new : Stage) (block_type : List ℕ) (t : Taken) : Type 0 where
@@ -143,38 +161,26 @@ abbrev pub TextAnswers : Folder → List ℕ → List ℕ → Option (List ℕ) 
 TextAnswers folder name text kept (Ok read) = IsReadIn folder name text kept read.0 read.1
 TextAnswers folder name text kept (Err refused) = SingleAnswers folder name text kept (Err refused)
 
--- the file of this name was read whole, and its block was taken after those of others
-pub record IsSingleLoaded (files : Option Files) (name : List ℕ) (w : World) (older : List TakenFile) (new : Stage) : Type 0 where
-  pub x : TakenFile
-  pub name_is : x.name ≡ name
-  pub origin_is : x.origin ≡ origin_of (folder_of name)
-  pub there : HasText files name x.text
+-- a file of one block was read whole
+pub record IsSingleRead (files : Option Files) (x : TakenFile) : Type 0 where
+  pub origin_is : x.origin ≡ origin_of (folder_of x.name)
+  pub there : HasText files x.name x.text
   pub block : Block
   pub blocks_are : x.blocks ≡ block ∷ []
-  pub num_is : x.num ≡ block.num
-  pub read : IsReadIn (folder_of name) name x.text None x.block_type block
-  pub loaded : IsLoaded w (x ∷ older) new
+  pub read : IsReadIn (folder_of x.name) x.name x.text None x.block_type block
 
 -- the file of this name is bad first at this place
-pub record IsBadNamed (files : Option Files) (name bad : List ℕ) (at : ℕ) : Type 0 where
-  pub name_is : bad ≡ name
+pub record IsBadSingle (files : Option Files) (name : List ℕ) (at : ℕ) : Type 0 where
   pub text : List ℕ
   pub there : HasText files name text
   pub answer : SingleAnswers (folder_of name) name text None (Err (Bad at))
 
--- what is answered to the file of this name
-abbrev pub SingleLoads : Option Files → List ℕ → World → List TakenFile → Stage → ℕ → ℕ → Result Unit LoadFault → Type 0
-SingleLoads files name w older new before now (Ok u) = IsSingleLoaded files name w older new
-SingleLoads files name w older new before now (Err refused) = LoadRefused (IsBadNamed files name) files w before now refused
+-- of the files of `forked/` and `one/`, in their order, this is the first bad one
+pub record IsFirstSingle (files : Option Files) (w : World) (older : List TakenFile) (name : List ℕ) (at : ℕ) : Type 0 where
+  pub entries : List Entry
+  pub listed : AreListed files entries
+  pub first : IsFirstBad (IsSingleTaken files) (IsBadSingle files) entries w older name at
 
--- these files were read whole, and their blocks were taken after those of others
-pub record AreSinglesLoaded (files : Option Files) (entries : List Entry) (w : World) (older : List TakenFile) (new : Stage) : Type 0 where
-  pub xs : List TakenFile
-  pub entries_are : entries ≡ entries_of xs
-  pub each : AllByRecursion (IsSingleTaken files) xs
-  pub loaded : IsLoaded w (xs ++ older) new
-
--- what is answered to these files
-abbrev pub SinglesLoad : Option Files → List Entry → World → List TakenFile → Stage → ℕ → ℕ → Result Unit LoadFault → Type 0
-SinglesLoad files entries w older new before now (Ok u) = AreSinglesLoaded files entries w older new
-SinglesLoad files entries w older new before now (Err refused) = LoadRefused (IsBadSingleFile files) files w before now refused
+-- of the files of `forked/` and `one/` this is the first bad one, and it is bad first at this place: all names are read before a file is
+abbrev pub IsBadSingleFile : Option Files → World → List TakenFile → List ℕ → ℕ → Type 0
+IsBadSingleFile files w older name at = IsUnlisted files name at ⊎ IsFirstSingle files w older name at

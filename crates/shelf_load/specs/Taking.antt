@@ -1,11 +1,11 @@
 -- What is kept while a shelf is loaded, and what each block that is taken does to it.
-use Rattle.std.specs.Prelude.{ℕ, ◌≡◌, ◌+◌, IsTrue, Bool, false, nat_lt, List, [], ◌∷◌, if◌then◌else◌, Option, None, Some, Result, Ok, Err, ⊤}
+use Rattle.std.specs.Prelude.{ℕ, ◌≡◌, ◌+◌, IsTrue, Bool, false, nat_lt, List, [], ◌∷◌, if◌then◌else◌, None, Result, Ok, Err, ⊤}
 use Rattle.block_record.specs.declared.blocks.Slip.{Slip}
-use Rattle.block_record.specs.Slips.{same_slip}
 use Rattle.chain_model.specs.Ancestry.{find_id}
 use Rattle.dbin_file.specs.Contents.{told}
 use Rattle.relay_model.specs.Worlds.{World}
 use Rattle.relay_model.specs.Offers.{Answer, Closed, Duplicate, Conflict, Early, Stale, WaitFull, Waiting, HistoryFull, Admitted, offered, tip_num}
+use Rattle.block_relay.specs.Held.{is_very}
 use Rattle.bundle_model.specs.Shedding.{place_in, stored_at}
 use Rattle.one_block.specs.declared.faults.StoreFault.TheVariants as store
 use Rattle.shelf_check.specs.declared.faults.LoadFault.{LoadFault}
@@ -52,14 +52,9 @@ after_put_by g s = record { world = g.world; aside = record g.aside { put_by = p
 abbrev pub after_block : Stage → Slip → Stage
 after_block g s = if is_offered g.world.history s then after_offer g s else after_put_by g s
 
--- whether the block that is known by an id is this very one
-abbrev pub is_found : Option Slip → Slip → Bool
-is_found None s = false
-is_found (Some held) s = same_slip held s
-
 -- whether a block is in a history
 abbrev pub is_in_history : List Slip → Slip → Bool
-is_in_history newest s = is_found (find_id newest s.id) s
+is_in_history newest s = is_very (find_id newest s.id) s
 
 -- the blocks that were not in the history, with one more where it is not
 abbrev pub with_late : Bool → Slip → List Slip → List Slip

@@ -2,6 +2,7 @@
 #![tactic(auto)]
 
 mod ending;
+mod entries;
 mod heads;
 mod laws;
 mod left_out;

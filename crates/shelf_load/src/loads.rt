@@ -6,9 +6,8 @@ ghost use Rattle.store_model.specs.Laws.{IsEmpty};
 ghost use Rattle.shelf_load.specs.Load.{Reloads, ShelfAnswers};
 
 use crate::ending::{count_lost, offer_put_by, store_late};
+use crate::entries::{load_merged, load_singles};
 use crate::left_out::LeftOut;
-use crate::merged::load_merged;
-use crate::singles::load_singles;
 use block_relay::Relay;
 use one_block::read_layout;
 use outer_world::Shelf;

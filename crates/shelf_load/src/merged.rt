@@ -1,12 +1,11 @@
-//! The folder of merged blocks, loaded.
+//! A file of merged blocks, loaded block by block.
 
-ghost use Rattle.std.specs.Prelude.{◌≡◌, ◌≤◌, List, ℕ};
-ghost use Rattle.std.specs.List.{All, AllByRecursion};
+ghost use Rattle.std.specs.Prelude.{◌≡◌, ◌≤◌, List};
+ghost use Rattle.std.specs.List.{AllByRecursion};
 ghost use Rattle.block_relay.specs.Chronicle.{world_told};
-ghost use Rattle.one_block.specs.Files.{IsSize};
 ghost use Rattle.relay_model.specs.Worlds.{World};
-ghost use Rattle.shelf_load.specs.Loading.{AreBundlesTaken, IsBadMerged, IsLoaded, IsPart, LoadAnswers, TakenFile};
-ghost use Rattle.shelf_load.specs.Merging.{BlockAnswers, EndAnswers, FileAnswers, FilesAnswer, HasBase};
+ghost use Rattle.shelf_load.specs.Loading.{FileAnswers, IsBadBundle, IsBundleRead, IsLoaded, IsPart, TakenFile};
+ghost use Rattle.shelf_load.specs.Merging.{BlockAnswers, EndAnswers};
 ghost use Rattle.shelf_load.specs.Taking.{stage};
 
 use crate::heads::greet;
@@ -16,66 +15,13 @@ use crate::taking::take_block;
 use block_record::Block;
 use block_relay::Relay;
 use file_reader::FileReader;
-use one_block::{FileFault, decode_at, end_place, merged_folder};
+use one_block::{FileFault, decode_at, end_place};
 use outer_world::{FileName, Shelf};
-use shelf_check::{LoadFault, bad_file, based_entries, with_name};
+use shelf_check::{LoadFault, bad_file, with_name};
 use std::alloc::Global;
 
-/// Takes the blocks of all files of merged blocks of this size, by their bases as numbers.
-pub(crate) fn load_merged<S: Shelf>(
-    alloc: Global,
-    relay: &mut Relay,
-    left: &mut LeftOut,
-    shelf: &mut S,
-    size: u64,
-) -> Result<(), LoadFault>
-    requires { IsSize size }
-    ensures answer { (w : World) (older : List TakenFile)
-        → IsLoaded w older (stage (world_told relay.old) left.old)
-        → AllByRecursion (IsPart (S.files shelf.old)) older
-        → LoadAnswers (AreBundlesTaken size (S.files shelf.old))
-        (IsBadMerged size (S.files shelf.old))
-        (S.files shelf.old) w older (stage (world_told relay.new) left.new)
-        (S.shelf_faults shelf.old) (S.shelf_faults shelf.new) result }
-    ensures files { S.files shelf.new ≡ S.files shelf.old }
-    ensures staged { S.staged shelf.new ≡ S.staged shelf.old }
-    ensures later { S.shelf_faults shelf.old ≤ S.shelf_faults shelf.new }
-{
-    let mut names = Vec::new(alloc);
-    shelf.list(alloc, merged_folder(size), &mut names)?;
-    let mut entries = based_entries(alloc, size, names.as_slice())?;
-    entries.sort_unstable();
-    load_entries(alloc, relay, left, shelf, entries.as_slice())?;
-    Ok(())
-}
-
-/// Takes the blocks of files one after another.
-fn load_entries<S: Shelf>(
-    alloc: Global,
-    relay: &mut Relay,
-    left: &mut LeftOut,
-    shelf: &mut S,
-    entries: &[(u64, FileName)],
-) -> Result<(), LoadFault>
-    ensures answer { (size : ℕ) (w : World) (older : List TakenFile)
-        → All (HasBase size) entries.now
-        → IsLoaded w older (stage (world_told relay.old) left.old)
-        → AllByRecursion (IsPart (S.files shelf.old)) older
-        → FilesAnswer size (S.files shelf.old) entries.now w older
-        (stage (world_told relay.new) left.new)
-        (S.shelf_faults shelf.old) (S.shelf_faults shelf.new) result }
-    ensures files { S.files shelf.new ≡ S.files shelf.old }
-    ensures staged { S.staged shelf.new ≡ S.staged shelf.old }
-    ensures later { S.shelf_faults shelf.old ≤ S.shelf_faults shelf.new }
-{
-    for entry in entries {
-        load_bundle(alloc, relay, left, shelf, &entry.1)?;
-    }
-    Ok(())
-}
-
 /// Takes the blocks of a file of merged blocks, one after another.
-fn load_bundle<S: Shelf>(
+pub(crate) fn load_bundle<S: Shelf>(
     alloc: Global,
     relay: &mut Relay,
     left: &mut LeftOut,
@@ -85,7 +31,8 @@ fn load_bundle<S: Shelf>(
     ensures answer { (w : World) (older : List TakenFile)
         → IsLoaded w older (stage (world_told relay.old) left.old)
         → AllByRecursion (IsPart (S.files shelf.old)) older
-        → FileAnswers (S.files shelf.old) name.now w older (stage (world_told relay.new) left.new)
+        → FileAnswers (IsBundleRead (S.files shelf.old)) (IsBadBundle (S.files shelf.old))
+        (S.files shelf.old) name.now w older (stage (world_told relay.new) left.new)
         (S.shelf_faults shelf.old) (S.shelf_faults shelf.new) result }
     ensures files { S.files shelf.new ≡ S.files shelf.old }
     ensures staged { S.staged shelf.new ≡ S.staged shelf.old }

@@ -1,13 +1,13 @@
-//! The folders whose files hold one block each, loaded.
+//! The folders whose files hold one block each, listed, and such a file, loaded.
 
-ghost use Rattle.std.specs.Prelude.{◌≡◌, ◌==◌, ◌<◌, ◌≤◌, List, ℕ, IfOk, IfSome, length};
-ghost use Rattle.std.specs.List.{All, AllByRecursion, position};
+ghost use Rattle.std.specs.Prelude.{◌≡◌, ◌==◌, ◌<◌, ◌≤◌, List, IfOk, IfSome, length};
+ghost use Rattle.std.specs.List.{AllByRecursion, position};
 ghost use Rattle.std.specs.Option.{option_map};
 ghost use Rattle.block_record.specs.Slips.{slip};
 ghost use Rattle.block_relay.specs.Chronicle.{world_told};
 ghost use Rattle.relay_model.specs.Worlds.{World};
-ghost use Rattle.shelf_load.specs.Loading.{AreSinglesTaken, IsBadSingleFile, IsLoaded, IsPart, LoadAnswers, TakenFile, origin_of as origin_so};
-ghost use Rattle.shelf_load.specs.Singling.{FolderAnswers, IsEntry, ListAnswers, NamesAnswer, SingleLoads, SinglesLoad, TextAnswers, ToldAnswers, folder_of as folder_so, number_before as number_up_to, number_begun as number_at_front, number_in as number_so};
+ghost use Rattle.shelf_load.specs.Loading.{FileAnswers, IsLoaded, IsPart, TakenFile, origin_of as origin_so};
+ghost use Rattle.shelf_load.specs.Singling.{FolderAnswers, IsBadSingle, IsSingleRead, ListAnswers, NamesAnswer, TextAnswers, ToldAnswers, folder_of as folder_so, number_before as number_up_to, number_begun as number_at_front, number_in as number_so};
 ghost use Rattle.shelf_load.specs.Taking.{stage, taken};
 
 use crate::heads::hello;
@@ -21,30 +21,11 @@ use outer_world::{FileName, Shelf};
 use shelf_check::{LoadFault, add_entry, bad_file, folder_text, read_text, with_name};
 use std::alloc::{AllocError, Global};
 
-/// Takes the blocks of all files of `forked/` and `one/` together, by number and then by whole name.
-pub(crate) fn load_singles<S: Shelf>(
-    alloc: Global,
-    relay: &mut Relay,
-    left: &mut LeftOut,
-    shelf: &mut S,
-) -> Result<(), LoadFault>
-    ensures answer { (w : World) (older : List TakenFile)
-        → IsLoaded w older (stage (world_told relay.old) left.old)
-        → AllByRecursion (IsPart (S.files shelf.old)) older
-        → LoadAnswers (AreSinglesTaken (S.files shelf.old)) (IsBadSingleFile (S.files shelf.old))
-        (S.files shelf.old) w older (stage (world_told relay.new) left.new)
-        (S.shelf_faults shelf.old) (S.shelf_faults shelf.new) result }
-    ensures files { S.files shelf.new ≡ S.files shelf.old }
-    ensures staged { S.staged shelf.new ≡ S.staged shelf.old }
-    ensures later { S.shelf_faults shelf.old ≤ S.shelf_faults shelf.new }
-{
-    let entries = list_singles(alloc, shelf)?;
-    load_entries(alloc, relay, left, shelf, entries.as_slice())?;
-    Ok(())
-}
-
 /// The numbers and names of all files of `forked/` and `one/`, by number and then by whole name.
-fn list_singles<S: Shelf>(alloc: Global, shelf: &mut S) -> Result<Vec<(u64, FileName)>, LoadFault>
+pub(crate) fn list_singles<S: Shelf>(
+    alloc: Global,
+    shelf: &mut S,
+) -> Result<Vec<(u64, FileName)>, LoadFault>
     ensures answer { ListAnswers (S.files shelf.old)
         (S.shelf_faults shelf.old) (S.shelf_faults shelf.new) result }
     ensures files { S.files shelf.new ≡ S.files shelf.old }
@@ -131,33 +112,8 @@ fn number_before(bare: &[u8], end: usize) -> Option<u64>
     read_filled(10, num)
 }
 
-/// Takes the blocks of files one after another.
-fn load_entries<S: Shelf>(
-    alloc: Global,
-    relay: &mut Relay,
-    left: &mut LeftOut,
-    shelf: &mut S,
-    entries: &[(u64, FileName)],
-) -> Result<(), LoadFault>
-    ensures answer { (w : World) (older : List TakenFile)
-        → All (IsEntry (S.files shelf.old)) entries.now
-        → IsLoaded w older (stage (world_told relay.old) left.old)
-        → AllByRecursion (IsPart (S.files shelf.old)) older
-        → SinglesLoad (S.files shelf.old) entries.now w older
-        (stage (world_told relay.new) left.new)
-        (S.shelf_faults shelf.old) (S.shelf_faults shelf.new) result }
-    ensures files { S.files shelf.new ≡ S.files shelf.old }
-    ensures staged { S.staged shelf.new ≡ S.staged shelf.old }
-    ensures later { S.shelf_faults shelf.old ≤ S.shelf_faults shelf.new }
-{
-    for entry in entries {
-        load_single(alloc, relay, left, shelf, &entry.1)?;
-    }
-    Ok(())
-}
-
 /// Takes the block of a file that holds one.
-fn load_single<S: Shelf>(
+pub(crate) fn load_single<S: Shelf>(
     alloc: Global,
     relay: &mut Relay,
     left: &mut LeftOut,
@@ -167,8 +123,8 @@ fn load_single<S: Shelf>(
     ensures answer { (w : World) (older : List TakenFile)
         → IsLoaded w older (stage (world_told relay.old) left.old)
         → AllByRecursion (IsPart (S.files shelf.old)) older
-        → SingleLoads (S.files shelf.old) name.now w older
-        (stage (world_told relay.new) left.new)
+        → FileAnswers (IsSingleRead (S.files shelf.old)) (IsBadSingle (S.files shelf.old))
+        (S.files shelf.old) name.now w older (stage (world_told relay.new) left.new)
         (S.shelf_faults shelf.old) (S.shelf_faults shelf.new) result }
     ensures files { S.files shelf.new ≡ S.files shelf.old }
     ensures staged { S.staged shelf.new ≡ S.staged shelf.old }

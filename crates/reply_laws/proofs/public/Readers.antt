@@ -1,18 +1,14 @@
 -- Texts that begin in one way: where a part ends, and what follows it.
-use Rattle.std.proofs.Common.{arith, ◌≡◌, ◌<◌, ◌^◌, ◌+◌, ◌*◌, ◌/◌, ◌%◌, ℕ, zero, suc, Bool, true, false, ◌||◌, ◌&&◌, cond, eqb, List, [], ◌∷◌, ◌++◌, get_or, replicate, Option, Some, None, refl, sym, ◌∙◌, ap, append_assoc}
+use Rattle.std.proofs.Common.{arith, ◌≡◌, ◌<◌, ◌^◌, ◌+◌, ◌*◌, ◌/◌, ◌%◌, ℕ, zero, suc, Bool, true, false, ◌||◌, cond, eqb, List, [], ◌∷◌, ◌++◌, get_or, replicate, Option, Some, None, refl, sym, ◌∙◌, ap, append_assoc}
 use Rattle.std.specs.Prelude.{codes, nat_lt, slice_index}
 use Rattle.std.specs.List.{list_all, concat, AllByRecursion}
 use Rattle.std.specs.Option.{unwrap_or}
 use Rattle.std.specs.Fmt.{decimal}
-use Rattle.std.specs.Str.{all_ascii_digits}
 use Rattle.std.specs.Char.{is_ascii_digit}
-use Rattle.std.specs.Str.Parse.{digits_value}
 use Rattle.std.proofs.lemmas.Bool.{and_parts, eqb-false, ne_eqb, ltb-true, false≢true}
 use Rattle.std.proofs.Math.Dec.{ltb}
 use Rattle.std.proofs.lemmas.List.{append_cancel_left}
 use Rattle.std.proofs.lemmas.Option.{same_Some}
-use Rattle.std.proofs.lemmas.Str.Parse.{IsNumeralModel, numerals_by_value, tells_all_ascii_digits}
-use Rattle.std.proofs.lemmas.Fmt.{digits_decimal}
 use Rattle.base64.specs.GeneralPurpose.{encode_of}
 use Rattle.base64.specs.Engines.{standard, url_safe_no_pad}
 use Rattle.base64.specs.Rfc4648.{encode_symbols}
@@ -21,7 +17,7 @@ use Rattle.hex.proofs.HexLemmas.{IsDigits-lower_digits}
 use Rattle.block_record.specs.declared.blocks.BlockRef.{BlockRef}
 use Rattle.block_record.specs.Number.{number_of}
 use Rattle.block_record.specs.Texts.{is_id_byte, IsId}
-use Rattle.block_record.proofs.public.NumberTexts.{number_of-decimal}
+use Rattle.block_record.proofs.public.NumberTexts.{decimal_digits, number_of-decimal}
 use Rattle.step_cursor.specs.CursorText.{IsRefIfAny}
 use Rattle.text_parts.specs.Parts.{escaped_byte, escaped}
 use Rattle.reply_text.specs.Lines.{ref_text}
@@ -93,15 +89,8 @@ split_at s (x ∷ a) (y ∷ b) more rest ha hb e =
 
 -- numbers
 
-numerals : IsNumeralModel (λ ds. all_ascii_digits ds ≡ true) (digits_value 10)
-numerals = numerals_by_value _ tells_all_ascii_digits
-
-digits_all : (l : List ℕ) → all_ascii_digits l ≡ list_all is_ascii_digit l
-digits_all [] = refl
-digits_all (x ∷ l) = ap (λ t. is_ascii_digit x && t) (digits_all l)
-
 pub none-decimal : (s n : ℕ) → is_ascii_digit s ≡ false → n < 2 ^ 64 → NoneIs s (decimal n)
-none-decimal s n isnt small = none-test is_ascii_digit s (decimal n) isnt (sym (digits_all (decimal n)) ∙ digits_decimal numerals n small)
+none-decimal s n isnt small = none-test is_ascii_digit s (decimal n) isnt (decimal_digits n small)
 
 pub same_number : (m n : ℕ) → m < 2 ^ 64 → n < 2 ^ 64 → decimal m ≡ decimal n → m ≡ n
 same_number m n hm hn e = same_Some m n (sym (number_of-decimal m hm) ∙ ap number_of e ∙ number_of-decimal n hn)

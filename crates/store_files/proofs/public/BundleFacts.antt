@@ -53,7 +53,7 @@ with_here b d rest same = let e = ltb_no d.base b.base (omega (arith, same)) in 
 with_front : (b d : Bundle) (rest : List Bundle) → b.base < d.base → with_bundle b (d ∷ rest) ≡ b ∷ d ∷ rest
 with_front b d rest less = let e = ltb_no d.base b.base (omega (arith, less)) in let f = eqb_no d.base b.base (λ h. omega (arith, h, less)) in rw (e, f) refl
 
-three : (a b : ℕ) → (a < b) ⊎ (a ≡ b) ⊎ (b < a)
+pub three : (a b : ℕ) → (a < b) ⊎ (a ≡ b) ⊎ (b < a)
 three a b = elim (cases_lt a b) [ inl less ↦ inl less | inr more ↦ elim (cases_lt b a) [ inl less ↦ inr (inr less) | inr le ↦ inr (inl (omega (arith, more, le))) ] ]
 
 -- one that takes the place of another

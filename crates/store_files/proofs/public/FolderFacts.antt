@@ -9,6 +9,7 @@ use Rattle.outer_world.specs.Files.{Files, file_at, with_file, without_file, put
 use Rattle.outer_world.proofs.public.FileFacts.{before_other}
 use Rattle.bundle_model.specs.Members.{Among}
 use Rattle.bundle_model.specs.Bundles.{Bundle, blocks_of}
+use Rattle.bundle_model.proofs.public.DoneFacts.{of_bundle}
 use Rattle.bundle_model.proofs.public.MemberFacts.{among_all, among_left, among_right, among_parts, among_map, map_among, among_filter, filter_among}
 use Rattle.store_model.specs.Shown.{Single, slips}
 use Rattle.store_model.specs.Steps.{with_bundle}
@@ -65,14 +66,6 @@ with_among b (d ∷ rest) c h = go (ltb d.base b.base) (eqb d.base b.base) h (λ
     go false false (inl e) ih = inl e
     go false false (inr k) ih = inr k
 
-pub blocks_bundle : (bundles : List Bundle) (s : Slip) → Among (blocks_of bundles) s → (b : Bundle) × Among bundles b × Among b.blocks s
-blocks_bundle [] s h = absurd h
-blocks_bundle (b ∷ rest) s h =
-    elim (among_parts b.blocks (blocks_of rest) s h) [
-      | inl own ↦ (b, inl refl, own)
-      | inr more ↦ let r = blocks_bundle rest s more in (r.0, inr r.1, r.2)
-    ]
-
 bundle_from : (size : ℕ) (files : Files) (b : Bundle) → Among (merged_of size files) b → (s : Slip) → Among b.blocks s → (name : List ℕ) × ShownBy files name s
 bundle_from size [] b h s k = absurd h
 bundle_from size (f ∷ files) b h s k = go (base_in size f.0) h (λ m. bundle_from size files b m s k)
@@ -89,7 +82,7 @@ bundle_from size (f ∷ files) b h s k = go (base_in size f.0) h (λ m. bundle_f
         ]
 
 pub merged_from : (size : ℕ) (files : Files) (s : Slip) → Among (blocks_of (merged_of size files)) s → (name : List ℕ) × ShownBy files name s
-merged_from size files s h = let b = blocks_bundle (merged_of size files) s h in bundle_from size files b.0 b.1 s b.2
+merged_from size files s h = let b = of_bundle (merged_of size files) s h in bundle_from size files b.0 b.1 s b.2
 
 -- a file of a folder is a file
 pub of_folder : (folder : List ℕ) (files : Files) (f : File) → Among (in_folder folder files) f → Among files f × (is_in folder f.0 ≡ true)

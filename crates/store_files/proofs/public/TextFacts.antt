@@ -1,18 +1,22 @@
 -- What texts of blocks show.
-use Rattle.std.proofs.Common.{◌≡◌, ℕ, List, [], ◌∷◌, map, reverse, Option, Some, refl, sym, ◌∙◌, ap, subst}
+use Rattle.std.proofs.Common.{◌≡◌, ℕ, List, [], ◌∷◌, map, reverse, Option, Some, refl, sym, ◌∙◌, ap, subst, inl}
 use Rattle.std.specs.List.{AllByRecursion, filter_map, cons_option}
 use Rattle.block_record.specs.declared.blocks.Block.{Block}
 use Rattle.block_record.specs.declared.blocks.Slip.{Slip}
 use Rattle.block_record.specs.Slips.{slip}
 use Rattle.block_record.specs.Texts.{IsReaderName}
-use Rattle.block_record.specs.Records.{IsRecordable}
-use Rattle.block_record.proofs.public.RecordFacts.{record_again}
+use Rattle.block_record.specs.Records.{IsRecordable, record_text}
+use Rattle.block_record.proofs.public.RecordFacts.{one_record, record_again}
 use Rattle.dbin_file.specs.Contents.{contents}
 use Rattle.one_block.specs.Containers.{IsRecordOf}
 use Rattle.one_block.specs.Heads.{AreRecordsOf, HoldsBlocks}
 use Rattle.one_block.specs.Names.{IsNamed}
 use Rattle.relay_model.specs.Soundness.{IsBlock}
 use Rattle.store_files.specs.Texts.{slip_read, slip_in, slips_in}
+
+-- the record of a block is that of no other
+pub own_record : (b : Block) → IsRecordable b → IsRecordOf (record_text b) b
+own_record b is = record { text = inl refl; recordable = is; only = λ other r same. one_record (record_text b) other b r is same (inl refl) }
 
 record_shows : (m : List ℕ) (b : Block) → IsRecordOf m b → slip_in m ≡ Some (slip b)
 record_shows m b r = ap slip_read (record_again m b r.recordable r.text)

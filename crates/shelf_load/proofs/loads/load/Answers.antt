@@ -26,8 +26,8 @@ returns-in_err-load_singles-clause-answer g c =
     let files = g.S.Shelf.files c.args.shelf.now in
     let m = (rw c.in_ok-size.ensures.files at c.in_ok-load_merged.ensures.answer) (record old { size = size }) [] (begins_loaded old (world_told c.set_size.new.self) size c.new-left.result c.set_size.ensures.world c.new-left.ensures) tt in
     rw (p.1, p.2)
-    (singles_refused files old size (g.S.Shelf.shelf_faults c.args.shelf.now) (g.S.Shelf.shelf_faults c.load_merged.new.shelf) (g.S.Shelf.shelf_faults c.load_singles.new.shelf) c.in_err-load_singles.field-0.0
-    (omega (arith, c.in_ok-size.ensures.later, c.in_ok-load_merged.ensures.later))
+    (singles_refused files old size (g.S.Shelf.shelf_faults c.args.shelf.now) (g.S.Shelf.shelf_faults c.load_merged.new.shelf) (g.S.Shelf.shelf_faults c.load_singles.new.shelf) m.xs c.in_err-load_singles.field-0.0
+    c.in_ok-size.ensures.answers m.all (omega (arith, c.in_ok-size.ensures.later, c.in_ok-load_merged.ensures.later))
     (after_merged files (g.S.Shelf.files c.load_merged.new.shelf) old size (g.S.Shelf.shelf_faults c.load_merged.new.shelf) (g.S.Shelf.shelf_faults c.load_singles.new.shelf)
     (stage (world_told c.load_merged.new.relay) c.load_merged.new.left) (stage (world_told c.load_singles.new.relay) c.load_singles.new.left) (Err c.in_err-load_singles.field-0.0)
     (c.in_ok-load_merged.ensures.files ∙ c.in_ok-size.ensures.files) m c.in_err-load_singles.ensures.answer))

@@ -2,8 +2,7 @@ use Rattle.std.proofs.Common.{◌++◌, ℕ, List, ap, subst, ◌∙◌}
 use Rattle.std.proofs.Math.Nat.{le_refl}
 use Rattle.std.proofs.lemmas.Result.{err_from_is_err_and}
 use Rattle.outer_world.specs.Shelves.{AreNamesOf}
-use Rattle.shelf_load.specs.Loading.{IsBadIn}
-use Rattle.shelf_load.specs.Singling.{IsGrown}
+use Rattle.shelf_load.specs.Singling.{IsGrown, IsUnnumberedIn}
 use Rattle.shelf_load.proofs.LoadedFacts.{shelf_refused}
 use Rattle.shelf_load.proofs.ListedFacts.{names_refused}
 use Rattle.shelf_load.proofs.singles.add_folder.Goals as goal
@@ -12,7 +11,7 @@ pub returns-in_err-list-clause-answer : goal.returns-in_err-list-clause-answer
 returns-in_err-list-clause-answer g c =
     let p = err_from_is_err_and c.from_residual.result c.from_residual.ensures.1 in
     rw (p.1, p.2)
-    (λ w. shelf_refused (IsBadIn c.args.folder (g.S.Shelf.files c.args.shelf.now)) (g.S.Shelf.files c.args.shelf.now) w (g.S.Shelf.shelf_faults c.args.shelf.now) (g.S.Shelf.shelf_faults c.args.shelf.now) (g.S.Shelf.shelf_faults c.list.new.self)
+    (λ w. shelf_refused (IsUnnumberedIn c.args.folder (g.S.Shelf.files c.args.shelf.now)) (g.S.Shelf.files c.args.shelf.now) w (g.S.Shelf.shelf_faults c.args.shelf.now) (g.S.Shelf.shelf_faults c.args.shelf.now) (g.S.Shelf.shelf_faults c.list.new.self)
     c.in_err-list.field-0.0 (le_refl (g.S.Shelf.shelf_faults c.args.shelf.now)) c.in_err-list.ensures.cause.failed)
 
 pub returns-in_err-add_names-clause-answer : goal.returns-in_err-add_names-clause-answer

@@ -9,7 +9,7 @@ loop-name-init c = grown_none c.args.names.now c.args.entries.now.items
 pub returns-in-None : goal.returns-in-None
 returns-in-None c =
     let N : Option ℕ → Type 0 = λ o. o ≡ number_in c.name-item.result in
-    no_number c.args.names.now c.loop-name.name-index c.name-item.result c.bad_file.result c.loop-name-test.true c.name-item.is (subst N c.in-None.is c.in_ok-num.ensures) c.bad_file.ensures
+    no_number c.args.names.now c.args.entries.now.items c.loop-name.entries.items c.loop-name.name-index c.name-item.result c.bad_file.result c.loop-name-test.true c.name-item.is c.loop-name.invariant (subst N c.in-None.is c.in_ok-num.ensures) c.bad_file.ensures
 
 pub loop-name-preserved : goal.loop-name-preserved
 loop-name-preserved c =

@@ -12,8 +12,8 @@ pub returns-in_err-add_folder-2-clause-answer : goal.returns-in_err-add_folder-2
 returns-in_err-add_folder-2-clause-answer g c =
     let p = err_from_is_err_and c.from_residual-in_err-add_folder-2.result c.from_residual-in_err-add_folder-2.ensures.1 in
     rw (p.1, p.2)
-    (λ w. second_refused (g.S.Shelf.files c.args.shelf.now) (g.S.Shelf.files c.add_folder.new.shelf) w (g.S.Shelf.shelf_faults c.args.shelf.now) (g.S.Shelf.shelf_faults c.add_folder.new.shelf) (g.S.Shelf.shelf_faults c.add_folder-2.new.shelf) c.in_err-add_folder-2.field-0.0
-    c.in_ok-add_folder.ensures.files c.in_ok-add_folder.ensures.later (c.in_err-add_folder-2.ensures.answer w))
+    (λ w. second_refused (g.S.Shelf.files c.args.shelf.now) (g.S.Shelf.files c.add_folder.new.shelf) c.new-entries.result.items c.add_folder.new.entries.items w (g.S.Shelf.shelf_faults c.args.shelf.now) (g.S.Shelf.shelf_faults c.add_folder.new.shelf) (g.S.Shelf.shelf_faults c.add_folder-2.new.shelf) c.in_err-add_folder-2.field-0.0
+    c.in_ok-add_folder.ensures.files c.in_ok-add_folder.ensures.later c.in_ok-add_folder.ensures.answer (c.in_err-add_folder-2.ensures.answer w))
 
 pub returns-clause-answer : goal.returns-clause-answer
 returns-clause-answer g c =

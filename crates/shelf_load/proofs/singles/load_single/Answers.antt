@@ -3,10 +3,9 @@ use Rattle.file_reader.specs.Reading.{HasText}
 use Rattle.std.proofs.Math.Nat.{le_refl}
 use Rattle.std.proofs.lemmas.Result.{err_from_is_err_and}
 use Rattle.block_relay.specs.Chronicle.{world_told}
-use Rattle.shelf_load.specs.Singling.{IsBadNamed}
 use Rattle.shelf_load.specs.Taking.{stage}
 use Rattle.shelf_load.proofs.LoadedFacts.{shelf_refused}
-use Rattle.shelf_load.proofs.SingleFacts.{text_refused, single_loaded, single_refused}
+use Rattle.shelf_load.proofs.SingleFacts.{IsBadNamed, text_refused, single_loaded, single_refused}
 use Rattle.shelf_load.proofs.singles.load_single.Goals as goal
 
 pub returns-in_err-text-clause-answer : goal.returns-in_err-text-clause-answer

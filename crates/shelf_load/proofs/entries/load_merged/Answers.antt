@@ -6,18 +6,18 @@ use Rattle.block_relay.specs.Chronicle.{world_told}
 use Rattle.outer_world.specs.Files.{Files}
 use Rattle.outer_world.specs.Shelves.{AreNamesOf}
 use Rattle.one_block.specs.Files.{folder_of_size}
-use Rattle.shelf_load.specs.Loading.{TakenFile, IsBadMerged, IsPart}
-use Rattle.shelf_load.specs.Merging.{HasBase}
+use Rattle.shelf_load.specs.Loading.{TakenFile, IsPart}
+use Rattle.shelf_load.specs.Merging.{HasBase, IsBadMerged}
 use Rattle.shelf_load.specs.Taking.{stage}
 use Rattle.shelf_load.proofs.LoadedFacts.{shelf_refused}
 use Rattle.shelf_load.proofs.FilesFacts.{based, folder_refused, folder_loaded, other_name}
-use Rattle.shelf_load.proofs.merged.load_merged.Goals as goal
+use Rattle.shelf_load.proofs.entries.load_merged.Goals as goal
 
 pub returns-in_err-list-clause-answer : goal.returns-in_err-list-clause-answer
 returns-in_err-list-clause-answer g c =
     let p = err_from_is_err_and c.from_residual.result c.from_residual.ensures.1 in
     rw (p.1, p.2)
-    (λ w older l parts. shelf_refused (IsBadMerged c.args.size (g.S.Shelf.files c.args.shelf.now)) (g.S.Shelf.files c.args.shelf.now) w (g.S.Shelf.shelf_faults c.args.shelf.now) (g.S.Shelf.shelf_faults c.args.shelf.now) (g.S.Shelf.shelf_faults c.list.new.self)
+    (λ w older l parts. shelf_refused (IsBadMerged c.args.size (g.S.Shelf.files c.args.shelf.now) w older) (g.S.Shelf.files c.args.shelf.now) w (g.S.Shelf.shelf_faults c.args.shelf.now) (g.S.Shelf.shelf_faults c.args.shelf.now) (g.S.Shelf.shelf_faults c.list.new.self)
     c.in_err-list.field-0.0 (le_refl (g.S.Shelf.shelf_faults c.args.shelf.now)) c.in_err-list.ensures.cause.failed)
 
 pub returns-in_err-entries-clause-answer : goal.returns-in_err-entries-clause-answer
@@ -26,7 +26,7 @@ returns-in_err-entries-clause-answer g c =
     let n = c.in_ok-list.ensures.names in
     let F : List ℕ → Type 0 = λ f. AreNamesOf (g.S.Shelf.files c.args.shelf.now) f n.0 in
     rw (p.1, p.2)
-    (λ w older l parts. other_name c.args.size (g.S.Shelf.files c.args.shelf.now) n.0 c.as_slice.result.now w (subst F c.merged_folder.ensures n.2) (c.as_slice.ensures.value ∙ n.1 ∙ ap (λ (x : List (List ℕ)). x ++ n.0) c.new-names.ensures.items)
+    (λ w older l parts. other_name c.args.size (g.S.Shelf.files c.args.shelf.now) n.0 c.as_slice.result.now w older (subst F c.merged_folder.ensures n.2) (c.as_slice.ensures.value ∙ n.1 ∙ ap (λ (x : List (List ℕ)). x ++ n.0) c.new-names.ensures.items)
     (g.S.Shelf.shelf_faults c.args.shelf.now) (g.S.Shelf.shelf_faults c.list.new.self) c.in_err-entries.field-0.0 c.in_err-entries.ensures)
 
 pub returns-in_err-load_entries-clause-answer : goal.returns-in_err-load_entries-clause-answer
