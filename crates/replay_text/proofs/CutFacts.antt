@@ -1,8 +1,8 @@
 -- A text cut after its first line.
-use Rattle.std.proofs.Common.{◌≡◌, ◌+◌, ◌-◌, ◌<◌, ◌≤◌, ℕ, zero, suc, Bool, true, false, eqb, List, [], ◌∷◌, ◌++◌, None, Some, length, take, drop, get_or, refl, sym, ◌∙◌, ap, arith, add-one, take_all, length-drop, append_assoc}
+use Rattle.std.proofs.Common.{◌≡◌, ◌+◌, ◌-◌, ◌<◌, ◌≤◌, ℕ, zero, suc, Bool, true, false, eqb, List, [], ◌∷◌, ◌++◌, None, Some, length, take, drop, get_or, refl, sym, ◌∙◌, ap, arith, add-one, take_all, length-drop}
 use Rattle.std.proofs.lemmas.List.{append-nil}
 use Rattle.memchr.specs.Find.{IsFirstByte, is_byte}
-use Rattle.replay_text.specs.Replies.{lines_after, each_line_after, BeginsWithLine}
+use Rattle.replay_text.specs.Replies.{lines_after, BeginsWithLine}
 
 not_true-false : (t : Bool) → (t ≡ true → ⊥) → t ≡ false
 not_true-false true h = absurd (h refl)

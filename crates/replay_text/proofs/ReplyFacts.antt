@@ -1,7 +1,7 @@
 -- Each reply is one line, so its name comes before it once.
-use Rattle.std.proofs.Common.{◌≡◌, ◌<◌, ◌^◌, ◌/◌, ◌%◌, ℕ, zero, suc, Bool, true, false, ◌||◌, cond, eqb, List, [], ◌∷◌, ◌++◌, get_or, replicate, Option, Some, None, refl, sym, ◌∙◌, ap, append_assoc}
+use Rattle.std.proofs.Common.{◌≡◌, ◌<◌, ◌^◌, ℕ, zero, suc, Bool, true, false, ◌||◌, cond, eqb, List, [], ◌∷◌, ◌++◌, get_or, replicate, Option, Some, None, refl, sym, ◌∙◌, ap, append_assoc}
 use Rattle.std.specs.Prelude.{codes, nat_lt}
-use Rattle.std.specs.List.{AllByRecursion, concat, flat_map, list_all}
+use Rattle.std.specs.List.{AllByRecursion, concat, list_all}
 use Rattle.std.specs.Fmt.{decimal}
 use Rattle.std.proofs.Math.Dec.{ltb}
 use Rattle.std.proofs.lemmas.Bool.{and_parts, ne_eqb, false≢true}
@@ -30,7 +30,7 @@ use Rattle.reply_text.specs.Replies.{Reply, Open, StepOf, Head, End, Error, repl
 use Rattle.reply_text.specs.Values.{IsBlockValue, IsErrorValue, IsOpenValue, IsValue}
 use Rattle.reply_laws.proofs.public.Readers.{NoneIs, none-append, none-decimal, none-test, right, whole_right}
 use Rattle.replay_text.specs.Laws.{RepliesAreLines}
-use Rattle.replay_text.specs.Replies.{client_lines, lines_after}
+use Rattle.replay_text.specs.Replies.{lines_after}
 
 -- ---- texts without an LF
 

@@ -1,5 +1,5 @@
 -- Small tables: what the definitions give.
-use Rattle.std.specs.Prelude.{◌≡◌, List, [], ◌∷◌, codes, Err}
+use Rattle.std.specs.Prelude.{◌≡◌, [], ◌∷◌, codes, Err}
 use Rattle.block_record.specs.declared.blocks.Slip.{Slip}
 use Rattle.block_reader.specs.declared.faults.TakeFault.TheVariants as take
 use Rattle.block_relay.specs.declared.answers.KindFault.TheVariants as kinds
