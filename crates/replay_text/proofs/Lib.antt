@@ -1,0 +1,4 @@
+mod AnswerFacts
+mod CutFacts
+mod ReplyFacts
+mod TableFacts

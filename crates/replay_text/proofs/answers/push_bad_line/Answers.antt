@@ -1,0 +1,17 @@
+use Rattle.std.proofs.Common.{List, [], ◌∷◌, ◌++◌, ap, ◌∙◌}
+use Rattle.std.specs.Prelude.{codes}
+use Rattle.std.specs.Fmt.{decimal}
+use Rattle.std.specs.List.{concat}
+use Rattle.text_parts.specs.declared.parts.Part.{Part}
+use Rattle.text_parts.specs.Parts.{parts_text}
+use Rattle.replay_text.proofs.answers.push_bad_line.Goals as goal
+
+pub returns-clause-ok : goal.returns-clause-ok
+returns-clause-ok c =
+    let old = c.args.out.now.items in
+    c.in_ok-push_parts.ensures.ok ∙ ap (λ (l : List Part). old ++ parts_text l) c.as_slice.ensures
+    ∙ (λ i. old
+    ++ concat (
+    c.args.reader.now ∷ codes " fault line " ∷ decimal (c.fault_place.ensures i) ∷ codes ": " ∷ c.fault_words.ensures i
+    ∷ c.fault_field.ensures i ∷ codes "\n" ∷ []
+    ))

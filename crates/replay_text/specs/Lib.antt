@@ -1,0 +1,5 @@
+pub mod Laws
+pub mod Lines
+pub mod Replies
+pub mod Tables
+pub mod Texts
