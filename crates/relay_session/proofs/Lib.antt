@@ -1,0 +1,4 @@
+mod ServedFacts
+mod LookFacts
+mod NextFacts
+mod GivenFacts
