@@ -1,14 +1,15 @@
 //! Prints the line of a step into one buffer in memory, again and again, and beside it what the base64
-//! of its payload and a copy of the line cost alone. It prints how many bytes that were. Time it from
-//! outside.
+//! of its payload and a copy of the line cost alone. It also reads the line, beside what one hash of
+//! its payload costs. It prints how many bytes that were. Time it from outside.
 #![tactic(auto)]
 
+mod reading;
 mod rounds;
 mod sample;
 
 use anyhow::{Result, bail};
 use rounds::{Part, run_rounds};
-use sample::{Shape, new_sample};
+use sample::{Sample, Shape, new_sample};
 use std::env;
 
 /// How often each part is done for each shape where no words are given.
@@ -46,7 +47,7 @@ fn main(rt: HostRuntime) -> Result<()> {
             let rounds = number_of(rounds.as_str())?;
             rt.println(run_rounds(rt.alloc(), part, &sample, rounds)?)?;
         }
-        _ => bail!("usage: bench_replies [line|base64|copy PAYLOAD ID ROUNDS]"),
+        _ => bail!("usage: bench_replies [line|base64|copy|read|hash PAYLOAD ID ROUNDS]"),
     }
     Ok(())
 }
@@ -61,6 +62,15 @@ fn print_shape(rt: &HostRuntime, shape: Shape) -> Result<()> {
     rt.println(format_args!(
         "payload {payload}, ids {id}: lines {lines}, base64 {base64}, copies {copies}"
     ))?;
+    print_client(rt, &sample)?;
+    Ok(())
+}
+
+/// Does the parts of a client, and prints how many bytes of payload that were.
+fn print_client(rt: &HostRuntime, sample: &Sample) -> Result<()> {
+    let read = run_rounds(rt.alloc(), Part::Read, sample, ROUNDS)?;
+    let hashed = run_rounds(rt.alloc(), Part::Hash, sample, ROUNDS)?;
+    rt.println(format_args!("read {read}, hashed {hashed}"))?;
     Ok(())
 }
 
@@ -70,6 +80,8 @@ fn part_of(word: &str) -> Result<Part> {
         "line" => Ok(Part::Line),
         "base64" => Ok(Part::Base64),
         "copy" => Ok(Part::Copy),
+        "read" => Ok(Part::Read),
+        "hash" => Ok(Part::Hash),
         _ => bail!("there is no part {word:?}"),
     }
 }

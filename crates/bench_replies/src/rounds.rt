@@ -1,5 +1,6 @@
 //! The parts that are measured.
 
+use crate::reading::{hash_payloads, read_lines};
 use crate::sample::Sample;
 use base64::engine::general_purpose::STANDARD;
 use chain_model::Step;
@@ -22,9 +23,13 @@ pub enum Part {
     Base64,
     /// The line is copied.
     Copy,
+    /// The line is read.
+    Read,
+    /// The payload is hashed.
+    Hash,
 }
 
-/// Does the part so often, and gives how many bytes it wrote.
+/// Does the part so often, and gives how many bytes it wrote, read or hashed.
 pub fn run_rounds(
     alloc: Global,
     part: Part,
@@ -36,6 +41,8 @@ pub fn run_rounds(
         Part::Line => print_lines(line, sample, rounds),
         Part::Base64 => Ok(encode_payloads(line, sample, rounds)),
         Part::Copy => copy_lines(alloc, &line, rounds),
+        Part::Read => read_lines(alloc, &line, rounds),
+        Part::Hash => Ok(hash_payloads(&sample.block, rounds)),
     }
 }
 
