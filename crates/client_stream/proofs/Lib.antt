@@ -1,2 +1,3 @@
 mod Told
 mod TextFacts
+pub mod public

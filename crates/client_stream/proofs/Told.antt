@@ -1,22 +1,19 @@
 -- What a session has written after an answer and after a step.
 use Rattle.std.proofs.Common.{arith, ◌≡◌, ◌≢◌, ◌≤◌, ◌+◌, ◌-◌, ℕ, Bool, true, false, cond, eqb, map, append_assoc, List, [], ◌∷◌, ◌++◌, length, Option, Some, None, Result, Ok, Err, refl, sym, ◌∙◌, ap, subst}
-use Rattle.std.proofs.lemmas.List.{length-append, length-map, length-reverse, length-drop, append_cancel_left}
+use Rattle.std.proofs.lemmas.List.{length-drop, append_cancel_left}
 use Rattle.block_record.specs.declared.blocks.Slip.{Slip}
 use Rattle.chain_model.specs.declared.places.Mode.{Mode}
 use Rattle.chain_model.specs.declared.places.Place.{Place}
 use Rattle.chain_model.specs.Ancestry.{IsHistory}
 use Rattle.chain_model.specs.Finality.{ClaimsAgree}
-use Rattle.chain_model.specs.Steps.{steps_of}
 use Rattle.fork_db.specs.declared.batches.Batch.{Batch}
-use Rattle.fork_db.specs.Batches.{IsBatch, IsGiven, step_total}
+use Rattle.fork_db.specs.Batches.{IsGiven, step_total}
 use Rattle.relay_model.specs.Worlds.{World}
 use Rattle.relay_model.specs.Looks.{Look as Said, Batch as BatchSaid, NotYet, Done, Closing, Unknown, Misfit, StopBelow, looked}
 use Rattle.relay_look.specs.declared.answers.Look.{Look}
 use Rattle.relay_look.specs.declared.answers.Look.TheVariants as look
 use Rattle.relay_look.specs.declared.answers.LookFault.{LookFault}
 use Rattle.relay_look.specs.declared.answers.LookFault.TheVariants as fault
-use Rattle.relay_look.specs.Answers.{IsLook, HasBatchOf}
-use Rattle.step_cursor.specs.declared.cursor.Request.{Request}
 use Rattle.std.specs.List.{AllByRecursion}
 use Rattle.reply_text.specs.Replies.{Reply, Open, reply_text}
 use Rattle.reply_text.specs.Values.{IsValue}
@@ -36,37 +33,7 @@ use Rattle.relay_look.specs.Answers.{FitsAt, position_of}
 use Rattle.client_stream.specs.Sessions.{State}
 use Rattle.client_stream.specs.Sent.{IsBatchGiven, HasSent, SentStays}
 use Rattle.client_stream.specs.Answers.{said_of, batch_in, total_of, opened, batch_after, batch_left, IsAnswerOf, IsStepOf}
-
--- the counts of a batch are those of its steps
-counts_total : (newest : List Slip) (m : Mode) (stop : Option ℕ) (b : Batch) → IsBatch newest m stop b → step_total b ≡ length (steps_of newest b.place m stop)
-counts_total newest m stop b h = let c = h.counts in simp (length-append, length-map, length-reverse) (omega (arith, c.undo, c.final, c.newfinal, c.new_))
-
--- the answer is what the rules say
-said_is : (said : Said) (answer : Result Look LookFault) → answer ≢ Err fault.Mem → IsLook said answer → said ≡ said_of answer
-said_is said (Ok (look.Batch b)) some h = h
-said_is said (Ok (look.NotYet len)) some h = h
-said_is said (Ok (look.Done len)) some h = h
-said_is said (Ok (look.Closing len)) some h = h
-said_is said (Err (fault.Unknown id)) some h = h
-said_is said (Err (fault.Misfit f)) some h = h
-said_is said (Err (fault.StopBelow end)) some h = h
-said_is said (Err fault.Mem) some h = absurd (some refl)
-
-same_batch : (a b : ℕ) (p q : Place) → BatchSaid a p ≡ BatchSaid b q → p ≡ q
-same_batch a b p q e = grind (arith, e)
-
--- the steps of a batch that was answered
-counted : (newest : List Slip) (r : Request) (answer : Result Look LookFault) → HasBatchOf newest r answer → (seen : ℕ) (place : Place) → said_of answer ≡ BatchSaid seen place
-    → total_of (batch_in answer) ≡ length (steps_of newest place r.mode r.stop)
-counted newest r (Ok (look.Batch b)) h seen place e =
-    counts_total newest r.mode r.stop b h.batch ∙ ap (λ p. length (steps_of newest p r.mode r.stop)) (same_batch b.seen seen b.place place e)
-counted newest r (Ok (look.NotYet len)) h seen place e = absurd (grind (arith, e))
-counted newest r (Ok (look.Done len)) h seen place e = absurd (grind (arith, e))
-counted newest r (Ok (look.Closing len)) h seen place e = absurd (grind (arith, e))
-counted newest r (Err (fault.Unknown id)) h seen place e = absurd (grind (arith, e))
-counted newest r (Err (fault.Misfit f)) h seen place e = absurd (grind (arith, e))
-counted newest r (Err (fault.StopBelow end)) h seen place e = absurd (grind (arith, e))
-counted newest r (Err fault.Mem) h seen place e = absurd (grind (arith, e))
+use Rattle.client_stream.proofs.public.AnswerFacts.{counted, said_is}
 
 same_opening : (given type : List ℕ) (run : ℕ) (place : Place) (lens : List ℕ) → (lens ≡ [] → given ≡ type) → opening_reply type run place lens ≡ opening_reply given run place lens
 same_opening given type run place [] same = ap (λ t. Open t run place ∷ []) (sym (same refl))
