@@ -1,10 +1,10 @@
 //! Shelves that are loaded, with counts worked out by hand.
 
 use crate::files::{File, HEAD, are_alike, shelf_of};
-use crate::relays::fill;
+use crate::relays::{fill, fill_failing};
 use block_relay::Relay;
 use history_tests::blocks::{A1, Whole};
-use memory_world::FailingShelf;
+use memory_world::{FailingShelf, MemoryShelf};
 use one_block::StoreFault;
 use relay_look::tip_number;
 use shelf_check::LoadFault;
@@ -219,16 +219,6 @@ fn refusal_of(fault: &LoadFault, bad: &str) -> Answer {
     }
 }
 
-#[test]
-fn shelves_are_loaded(rt: HostRuntime) -> Result<(), Fail> {
-    let alloc = rt.alloc();
-    assert!(rt; is_answered(alloc, FORK, 0, "", GIVEN)?);
-    assert!(rt; is_answered(alloc, FORK, 105, "", given(loads(1, 0, 3, 0), 105, 0, 1))?);
-    assert!(rt; is_answered(alloc, ORPHANS, 0, "", given(loads(2, 2, 1, 0), 1, 0, 2))?);
-    assert!(rt; is_answered(alloc, AGAIN, 0, "", given(loads(2, 0, 0, 1), 2, 2, 0))?);
-    Ok(())
-}
-
 fn given(loaded: Loaded, tip: u64, stored: u64, retained: u64) -> Answer {
     Answer::Loads {
         loaded,
@@ -238,36 +228,80 @@ fn given(loaded: Loaded, tip: u64, stored: u64, retained: u64) -> Answer {
     }
 }
 
+fn bad_at(at: u64) -> Answer {
+    Answer::Bad { named: true, at }
+}
+
 #[test]
-fn bad_shelves_are_refused(rt: HostRuntime) -> Result<(), Fail> {
-    let alloc = rt.alloc();
-    assert!(rt; is_answered(alloc, LONG, 0, "", Answer::Full { len: 5, need: 1 })?);
-    assert!(rt; is_answered(alloc, EMPTY, 0, "merged/0000000000.dbin", bad_at(17))?);
-    assert!(rt; is_answered(alloc, MISNAMED, 0, "one/x.dbin", bad_at(0))?);
-    assert!(rt; is_answered(alloc, OTHER_TYPE, 0, "", Answer::Clash { named: true })?);
+fn a_fork_is_loaded(rt: HostRuntime) -> Result<(), Fail> {
+    assert!(rt; is_answered(rt.alloc(), FORK, 0, "", GIVEN)?);
+    let wanted = given(loads(1, 0, 3, 0), 105, 0, 1);
+    assert!(rt; is_answered(rt.alloc(), FORK, 105, "", wanted)?);
     Ok(())
 }
 
-fn bad_at(at: u64) -> Answer {
-    Answer::Bad { named: true, at }
+#[test]
+fn blocks_that_wait_or_come_again_are_counted(rt: HostRuntime) -> Result<(), Fail> {
+    let waiting = given(loads(2, 2, 1, 0), 1, 0, 2);
+    assert!(rt; is_answered(rt.alloc(), ORPHANS, 0, "", waiting)?);
+    let again = given(loads(2, 0, 0, 1), 2, 2, 0);
+    assert!(rt; is_answered(rt.alloc(), AGAIN, 0, "", again)?);
+    Ok(())
+}
+
+#[test]
+fn what_does_not_fit_is_refused(rt: HostRuntime) -> Result<(), Fail> {
+    let full = Answer::Full { len: 5, need: 1 };
+    assert!(rt; is_answered(rt.alloc(), LONG, 0, "", full)?);
+    let clash = Answer::Clash { named: true };
+    assert!(rt; is_answered(rt.alloc(), OTHER_TYPE, 0, "", clash)?);
+    Ok(())
+}
+
+#[test]
+fn bad_files_are_named(rt: HostRuntime) -> Result<(), Fail> {
+    assert!(rt; is_answered(rt.alloc(), EMPTY, 0, "merged/0000000000.dbin", bad_at(17))?);
+    assert!(rt; is_answered(rt.alloc(), MISNAMED, 0, "one/x.dbin", bad_at(0))?);
+    Ok(())
 }
 
 /// How many calls of the shelf a load of the fork takes: one for the layout, three lists of names, and two
 /// for each file.
 const CALLS: u64 = 10;
 
-/// Whether a load of the fork whose call of this number fails is refused, leaves the files, and another
-/// one gives what one alone gives.
-fn is_made_good(alloc: Global, call: u64) -> Result<bool, Fail> {
-    let whole = shelf_of(alloc, FORK)?;
+/// A shelf with the fork whose call of this number fails.
+fn failing_shelf(alloc: Global, call: u64) -> Result<FailingShelf<MemoryShelf>, Fail> {
+    let shelf = shelf_of(alloc, FORK)?;
     let fails = Vec::from_slice(alloc, &[call])?;
-    let mut shelf = FailingShelf::new(shelf_of(alloc, FORK)?, fails);
-    let first = fill(alloc, 0, ROOM, &mut shelf)?;
-    let failed = answer_of(&first.relay, &first.answer, "") == Answer::Failed;
-    let second = fill(alloc, 0, ROOM, &mut shelf)?;
-    let given = answer_of(&second.relay, &second.answer, "") == GIVEN;
-    let left = shelf.into_inner();
-    Ok(failed && given && are_alike(alloc, &left, &whole, FORK)?)
+    Ok(FailingShelf::new(shelf, fails))
+}
+
+fn answer_on(alloc: Global, shelf: &mut FailingShelf<MemoryShelf>) -> Result<Answer, Fail> {
+    let filled = fill_failing(alloc, ROOM, shelf)?;
+    Ok(answer_of(&filled.relay, &filled.answer, ""))
+}
+
+/// Whether a first load is refused, and a second one gives what one alone gives.
+fn is_loaded_twice(alloc: Global, shelf: &mut FailingShelf<MemoryShelf>) -> Result<bool, Fail> {
+    let first = answer_on(alloc, shelf)?;
+    let second = answer_on(alloc, shelf)?;
+    Ok(first == Answer::Failed && second == GIVEN)
+}
+
+/// Whether the files of the fork are as they were.
+fn is_left_alone(alloc: Global, shelf: &MemoryShelf) -> Result<bool, Fail> {
+    let whole = shelf_of(alloc, FORK)?;
+    let alike = are_alike(alloc, shelf, &whole, FORK)?;
+    Ok(alike)
+}
+
+/// Whether a load of the fork whose call of this number fails is refused, another one gives what one alone
+/// gives, and the files are left.
+fn is_made_good(alloc: Global, call: u64) -> Result<bool, Fail> {
+    let mut shelf = failing_shelf(alloc, call)?;
+    let good = is_loaded_twice(alloc, &mut shelf)?;
+    let left = is_left_alone(alloc, shelf.inner())?;
+    Ok(good && left)
 }
 
 #[test]

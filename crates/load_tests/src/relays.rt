@@ -5,7 +5,7 @@ ghost use Rattle.block_relay.specs.Chronicle.{world_told};
 ghost use Rattle.store_model.specs.Laws.{IsEmpty};
 
 use block_relay::{Limits, Relay};
-use outer_world::Shelf;
+use memory_world::{FailingShelf, MemoryShelf};
 use shelf_check::LoadFault;
 use shelf_load::{Loaded, load};
 use std::alloc::{AllocError, Global};
@@ -37,13 +37,24 @@ pub struct Filled {
 }
 
 /// Loads a shelf into an empty relay.
-pub fn fill<S: Shelf>(
+pub fn fill(
     alloc: Global,
     first: u64,
     history: u64,
-    shelf: &mut S,
+    shelf: &mut MemoryShelf,
 ) -> Result<Filled, AllocError> {
     let mut relay = fresh(alloc, first, history)?;
+    let answer = load(alloc, &mut relay, shelf);
+    Ok(Filled { relay, answer })
+}
+
+/// The same of a shelf of which calls fail.
+pub fn fill_failing(
+    alloc: Global,
+    history: u64,
+    shelf: &mut FailingShelf<MemoryShelf>,
+) -> Result<Filled, AllocError> {
+    let mut relay = fresh(alloc, 0, history)?;
     let answer = load(alloc, &mut relay, shelf);
     Ok(Filled { relay, answer })
 }

@@ -1,8 +1,8 @@
 //! Runs that are stopped at each call of the shelf, and what is loaded then.
 
 use crate::files::is_there;
-use crate::relays::fill;
-use crate::runs::{Form, run_until};
+use crate::relays::{Filled, fill};
+use crate::runs::{Form, Run, run_until};
 use block_record::Slip;
 use block_relay::Relay;
 use relay_look::tip_number;
@@ -47,16 +47,47 @@ const WIDE: Case = Case {
 /// The room of the histories.
 const ROOM: u64 = 300;
 
+/// What a run left, and what was loaded of its shelf.
+#[derive(Drop)]
+struct Stop {
+    ended: bool,
+    old: Relay,
+    filled: Filled,
+    bundle: bool,
+}
+
+/// Runs a chain that stops after so many calls, and loads what that leaves.
+fn stop_at(alloc: Global, form: Form, nums: &[u64], calls: u64) -> Result<Stop, Fail> {
+    let run = run_until(alloc, form, nums, calls)?;
+    let stop = load_again(alloc, run)?;
+    Ok(stop)
+}
+
+fn load_again(alloc: Global, run: Run) -> Result<Stop, Fail> {
+    let Run {
+        relay: old,
+        mut shelf,
+        ended,
+    } = run;
+    let bundle = is_there(alloc, &shelf, "merged/0000000000.dbin")?;
+    let filled = fill(alloc, 0, ROOM, &mut shelf)?;
+    Ok(Stop {
+        ended,
+        old,
+        filled,
+        bundle,
+    })
+}
+
 /// Whether a run that stops after so many calls ends exactly where those are all, and what it leaves is
 /// loaded with each block of its history.
 fn is_kept(alloc: Global, case: &Case, calls: u64) -> Result<bool, Fail> {
-    let mut run = run_until(alloc, case.form, &case.nums, calls)?;
-    let filled = fill(alloc, 0, ROOM, &mut run.shelf)?;
-    Ok(
-        run.ended == (calls == case.calls)
-            && filled.answer.is_ok()
-            && is_front(&run.relay, &filled.relay),
-    )
+    let stop = stop_at(alloc, case.form, &case.nums, calls)?;
+    Ok(stop.ended == (calls == case.calls) && is_loaded_whole(&stop))
+}
+
+fn is_loaded_whole(stop: &Stop) -> bool {
+    stop.filled.answer.is_ok() && is_front(&stop.old, &stop.filled.relay)
 }
 
 /// Whether each block of a history is in another, and the final path of the one is a front of that of the
@@ -95,12 +126,12 @@ fn final_slip(relay: &Relay, depth: u64) -> Option<&Slip> {
 
 /// Whether nothing is lost wherever a run stops.
 fn is_always_kept(alloc: Global, case: &Case) -> Result<bool, Fail> {
-    for calls in 0..case.calls {
+    for calls in 0..=case.calls {
         if !is_kept(alloc, case, calls)? {
             return Ok(false);
         }
     }
-    is_kept(alloc, case, case.calls)
+    Ok(true)
 }
 
 #[test]
@@ -115,23 +146,58 @@ fn nothing_is_lost_at_any_stop(rt: HostRuntime) -> Result<(), Fail> {
 /// the first 99.
 const MERGED_CALLS: u64 = 199 * 3 + 101;
 
-#[test]
-fn a_stop_after_a_merge_loses_nothing(rt: HostRuntime) -> Result<(), Fail> {
-    let alloc = rt.alloc();
-    let mut nums = Vec::new(alloc);
-    for num in 1..200 {
-        nums.push(num)?;
+/// What a stop right after the first bundle was written leaves: the numbers of the final tip and of the
+/// head after a load.
+#[derive(Clone, Copy, PartialEq, Eq)]
+struct Left {
+    ended: bool,
+    bundle: bool,
+    loaded: bool,
+    tip: u64,
+    head: Option<u64>,
+}
+
+fn left_by(stop: &Stop) -> Left {
+    let relay = &stop.filled.relay;
+    Left {
+        ended: stop.ended,
+        bundle: stop.bundle,
+        loaded: stop.filled.answer.is_ok(),
+        tip: tip_number(relay.history()),
+        head: head_number(relay),
     }
-    let mut run = run_until(alloc, CHAIN.form, nums.as_slice(), MERGED_CALLS)?;
-    assert!(rt; !run.ended && is_there(alloc, &run.shelf, "merged/0000000000.dbin")?);
-    let filled = fill(alloc, 0, ROOM, &mut run.shelf)?;
-    assert!(rt; filled.answer.is_ok());
-    assert!(rt; tip_number(filled.relay.history()) == 199);
-    assert!(rt; head_number(&filled.relay) == Some(199));
-    Ok(())
 }
 
 fn head_number(relay: &Relay) -> Option<u64> {
     let head = relay.history().head()?;
     Some(relay.slip(head).num)
+}
+
+/// The numbers from 1 to 199.
+fn many_numbers(alloc: Global) -> Result<Vec<u64>, Fail> {
+    let mut nums = Vec::new(alloc);
+    for num in 1..200 {
+        nums.push(num)?;
+    }
+    Ok(nums)
+}
+
+/// A stop of 199 blocks right after the first bundle was written.
+fn stop_after_merge(alloc: Global) -> Result<Left, Fail> {
+    let nums = many_numbers(alloc)?;
+    let stop = stop_at(alloc, CHAIN.form, nums.as_slice(), MERGED_CALLS)?;
+    Ok(left_by(&stop))
+}
+
+#[test]
+fn a_stop_after_a_merge_loses_nothing(rt: HostRuntime) -> Result<(), Fail> {
+    let wanted = Left {
+        ended: false,
+        bundle: true,
+        loaded: true,
+        tip: 199,
+        head: Some(199),
+    };
+    assert!(rt; stop_after_merge(rt.alloc())? == wanted);
+    Ok(())
 }
