@@ -47,7 +47,7 @@ pub struct Plant {
 
 // Clauses see nothing of a plant, which keeps the proofs of tests small.
 impl Model for Plant {
-    ghost use Rattle.std.specs.Prelude.{⊤, tt};
+    ghost use Rattle.std.specs.Prelude.{⊤};
 
     ghost Value = { ⊤ };
 

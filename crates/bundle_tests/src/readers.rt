@@ -62,7 +62,7 @@ pub struct Reader {
 
 // Clauses see nothing of a reader, which keeps the proofs of tests small.
 impl Model for Reader {
-    ghost use Rattle.std.specs.Prelude.{⊤, tt, Some};
+    ghost use Rattle.std.specs.Prelude.{⊤, Some};
     ghost use Rattle.block_reader.specs.Kept.{AreOwn};
 
     ghost Value = { ⊤ };
