@@ -9,7 +9,7 @@ use std::alloc::Global;
 use std::test::Fail;
 
 /// A fork at 2 whose upper block is final, and a block that makes a bundle due.
-pub const FORK: [Whole; 4] = [
+pub const FORK: &[Whole] = &[
     A1,
     B2,
     (2, "c2", 1, "a1", 2, b"1"),

@@ -1,7 +1,7 @@
 //! A fork that is merged, and merges of it that stop at each call of the shelf.
 
 use crate::blocks::FORK;
-use crate::plants::{Answer, Plant};
+use crate::plants::{MergeAnswer, Plant};
 use std::alloc::Global;
 use std::test::Fail;
 
@@ -18,67 +18,73 @@ const OFF_TEXT: &[u8] =
 const BUNDLE_TEXT: &[u8] =
     b"dbin\x01\0\x0atest.Block\0\0\0\x4c\x02\0\0\0\0\0\0\0\x01\0\0\0\0\0\0\0\0\0\0\0\0\0\0\0\0\0\0\0\0\0\0\0\0\x02a1\x02a0\0\0\0\x011\x6b\x86\xb2\x73\xff\x34\xfc\xe1\x9d\x6b\x80\x4e\xff\x5a\x3f\x57\x47\xad\xa4\xea\xa2\x2f\x1d\x49\xc0\x1e\x52\xdd\xb7\x87\x5b\x4b\0\0\0\x4c\x02\0\0\0\0\0\0\0\x02\0\0\0\0\0\0\0\x01\0\0\0\0\0\0\0\x02\0\0\0\0\0\0\0\0\x02c2\x02a1\0\0\0\x011\x6b\x86\xb2\x73\xff\x34\xfc\xe1\x9d\x6b\x80\x4e\xff\x5a\x3f\x57\x47\xad\xa4\xea\xa2\x2f\x1d\x49\xc0\x1e\x52\xdd\xb7\x87\x5b\x4b";
 
-const MERGED: Answer = Answer {
+pub const MERGED: MergeAnswer = MergeAnswer::Merged {
     bundles: 1,
     stored: 2,
     retained: 1,
 };
 
-/// A plant with the fork.
-pub fn forked_plant(alloc: Global) -> Result<Plant, Fail> {
-    let mut plant = Plant::new(alloc)?;
-    for fields in FORK {
-        plant.admit(alloc, fields)?;
-    }
-    Ok(plant)
-}
-
 /// Whether a merge of the fork has its answer and its files, and of the blocks the last one alone has its
 /// payload then.
 fn is_merged(alloc: Global, plant: &mut Plant) -> Result<bool, Fail> {
     let answer = plant.merge(alloc);
-    let is_stored = are_written(alloc, plant)?;
-    Ok(answer == Some(MERGED) && is_stored && plant.holds_from(3))
-}
-
-fn are_written(alloc: Global, plant: &Plant) -> Result<bool, Fail> {
     let off = plant.text(alloc, OFF)?;
     let bundle = plant.text(alloc, BUNDLE)?;
-    Ok(off == OFF_TEXT && bundle == BUNDLE_TEXT)
+    let is_stored = off == OFF_TEXT && bundle == BUNDLE_TEXT;
+    Ok(answer == MERGED && is_stored && plant.holds_from(3))
+}
+
+/// Whether a merge is refused and sheds nothing, the file of the block off the final path is there or not,
+/// and the bundle is not.
+fn is_stopped(alloc: Global, plant: &mut Plant, has_off: bool) -> Result<bool, Fail> {
+    let is_refused = plant.merge(alloc) == MergeAnswer::Failed && plant.holds_from(0);
+    let off = plant.text(alloc, OFF)?;
+    let bundle = plant.text(alloc, BUNDLE)?;
+    Ok(is_refused && off.is_empty() != has_off && bundle.is_empty())
+}
+
+fn merges_fork(alloc: Global, plant: &mut Plant) -> Result<bool, Fail> {
+    plant.admit_all(alloc, FORK)?;
+    let is_merged = is_merged(alloc, plant)?;
+    Ok(is_merged)
+}
+
+/// Whether the fork is merged as it is to.
+fn is_fork_merged(alloc: Global) -> Result<bool, Fail> {
+    let mut plant = Plant::new(alloc, false, None)?;
+    let is_merged = merges_fork(alloc, &mut plant);
+    plant.close();
+    is_merged
 }
 
 #[test]
 fn a_fork_is_merged(rt: HostRuntime) -> Result<(), Fail> {
-    let alloc = rt.alloc();
-    let mut plant = forked_plant(alloc)?;
-    assert!(rt; is_merged(alloc, &mut plant)?);
+    assert!(rt; is_fork_merged(rt.alloc())?);
     Ok(())
 }
 
 /// How many calls of the shelf a merge of the fork takes: the header, the block and the file off the final
 /// path, and then the header, the two blocks and the file of the bundle.
-const CALLS: u64 = 7;
+pub const CALLS: u64 = 7;
 
 /// How many of them stand before the bundle's.
 const OFF_CALLS: u64 = 3;
 
-/// Whether a merge whose call of this number fails is refused with the files before it, nothing is shed,
-/// and another merge leaves what one that did not stop does.
-fn is_made_good(alloc: Global, call: u64) -> Result<bool, Fail> {
-    let mut plant = forked_plant(alloc)?;
-    plant.fail_at(alloc, call)?;
-    let is_left = is_left(alloc, &mut plant, call >= OFF_CALLS)?;
-    let is_merged = is_merged(alloc, &mut plant)?;
-    Ok(is_left && is_merged)
+/// Whether a merge that fails at this call leaves the files before it, and another merge leaves what one
+/// that did not fail does.
+fn merges_again(alloc: Global, plant: &mut Plant, call: u64) -> Result<bool, Fail> {
+    plant.admit_all(alloc, FORK)?;
+    let is_stopped = is_stopped(alloc, plant, call >= OFF_CALLS)?;
+    let is_merged = is_merged(alloc, plant)?;
+    Ok(is_stopped && is_merged)
 }
 
-/// Whether a merge stops and sheds nothing, the file of the block off the final path is there or not, and
-/// the bundle is not.
-fn is_left(alloc: Global, plant: &mut Plant, has_off: bool) -> Result<bool, Fail> {
-    let is_stopped = plant.is_stopped(alloc) && plant.holds_from(0);
-    let off = plant.text(alloc, OFF)?;
-    let bundle = plant.text(alloc, BUNDLE)?;
-    Ok(is_stopped && off.is_empty() != has_off && bundle.is_empty())
+/// Whether a merge whose call of this number fails is made good by another one.
+fn is_made_good(alloc: Global, call: u64) -> Result<bool, Fail> {
+    let mut plant = Plant::new(alloc, false, Some(call))?;
+    let is_made_good = merges_again(alloc, &mut plant, call);
+    plant.close();
+    is_made_good
 }
 
 #[test]

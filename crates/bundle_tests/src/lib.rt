@@ -1,5 +1,5 @@
 //! Tests of bundles that are merged, and of blocks that are taken with a file of their own, over a relay
-//! and shelves in memory.
+//! and a shelf in memory.
 #![tactic(auto)]
 
 #[cfg(test)]
@@ -10,8 +10,6 @@ mod forks;
 mod merges;
 #[cfg(test)]
 mod plants;
-#[cfg(test)]
-mod readers;
 #[cfg(test)]
 mod shelves;
 #[cfg(test)]

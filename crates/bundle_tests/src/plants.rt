@@ -1,13 +1,14 @@
-//! Relays with their shelves.
+//! Relays with their shelves, and the reader that feeds them.
 
 use crate::blocks::{block_of, chain_block, kind};
-use crate::shelves::{TestShelf, failing_shelf, shelf_of, text_of};
-use block_record::Block;
-use block_relay::{Limits, Offered, Relay};
+use crate::shelves::{TestShelf, shelf_of, text_of};
+use block_reader::{OwnFiles, TakeFault, take_owned};
+use block_record::{Block, Kind, ReaderName};
+use block_relay::{Limits, OfferFault, Offered, Relay};
 use bundle_merger::{Merged, merge_owned};
 use history_tests::blocks::Whole;
 use one_block::StoreFault;
-use std::alloc::Global;
+use std::alloc::{AllocError, Global};
 use std::marker::Model;
 use std::sync::Arc;
 use std::test::Fail;
@@ -23,106 +24,162 @@ const LIMITS: Limits = Limits {
     hold: 3,
 };
 
-/// What a merge answers, and how many blocks are retained then.
+/// What a merge is answered.
 #[derive(Clone, Copy, PartialEq, Eq)]
-pub struct Answer {
-    pub bundles: u64,
-    pub stored: u64,
-    pub retained: u64,
+pub enum MergeAnswer {
+    /// How many bundles it wrote, and how many final blocks are stored and how many blocks retained then.
+    Merged {
+        bundles: u64,
+        stored: u64,
+        retained: u64,
+    },
+    Failed,
+    Other,
 }
 
-/// A file by its name, and how many bytes it has: none where it is not there.
+/// What a take is answered.
+#[derive(Clone, Copy, PartialEq, Eq)]
+pub enum TakeAnswer {
+    Admitted,
+    Duplicate,
+    Contradicts,
+    Failed,
+    Other,
+}
+
+/// The names of a block's files.
 #[derive(Clone, Copy)]
-pub struct FileSize {
-    pub name: &'static str,
-    pub bytes: usize,
+pub struct Names {
+    pub one: &'static str,
+    pub refused: &'static str,
 }
 
-/// A relay of test.Block with room for 300 blocks, and its shelf.
+/// Which files of a block are there; and how many own files, conflicts and blocks there are.
+#[derive(Clone, Copy, PartialEq, Eq)]
+pub struct Left {
+    pub one: bool,
+    pub refused: bool,
+    pub own: usize,
+    pub conflicts: usize,
+    pub blocks: u64,
+}
+
+/// A reader by its name, and the kind of its blocks.
+#[derive(Drop)]
+struct Node {
+    name: ReaderName,
+    kind: Kind,
+}
+
+/// A relay with room for 300 blocks and its shelf, and the reader r1 of test.Block with its own files.
 #[derive(Drop)]
 pub struct Plant {
     relay: Relay,
     shelf: TestShelf,
+    node: Node,
+    own: OwnFiles,
 }
 
 // Clauses see nothing of a plant, which keeps the proofs of tests small.
 impl Model for Plant {
-    ghost use Rattle.std.specs.Prelude.{⊤};
+    ghost use Rattle.std.specs.Prelude.{⊤, Some};
+    ghost use Rattle.block_reader.specs.Kept.{AreOwn};
 
     ghost Value = { ⊤ };
 
     ghost view = { λ _. tt };
+
+    ghost invariant = { λ p. AreOwn (Some p.shelf.inner.files) p.own };
 }
 
 impl Plant {
-    /// A plant whose shelf does not fail.
-    pub fn new(alloc: Global) -> Result<Plant, Fail> {
-        let relay = greeted(alloc, 100)?;
-        let shelf = shelf_of(alloc);
-        Ok(Plant { relay, shelf })
+    /// A plant with bundles of 100 numbers, or of 1,000 where it is wide. The shelf's call of this number
+    /// fails, counted from 0, if one is given.
+    pub fn new(alloc: Global, wide: bool, fails: Option<u64>) -> Result<Plant, Fail> {
+        let node = node_of(alloc)?;
+        let shelf = shelf_of(alloc, fails)?;
+        let relay = relay_of(alloc, wide)?;
+        Ok(Plant {
+            relay,
+            shelf,
+            node,
+            own: OwnFiles::new(alloc),
+        })
     }
 
-    /// The same with bundles of 1,000 numbers.
-    pub fn wide(alloc: Global) -> Result<Plant, Fail> {
-        let relay = greeted(alloc, 1_000)?;
-        let shelf = shelf_of(alloc);
-        Ok(Plant { relay, shelf })
-    }
+    /// Gives the plant up. Nothing else does, since each place that does takes a long proof.
+    pub fn close(self) {}
 
-    /// Has the shelf's call of this number fail, counted from 0. The shelf has no files then.
-    pub fn fail_at(&mut self, alloc: Global, call: u64) -> Result<(), Fail> {
-        self.shelf = failing_shelf(alloc, call)?;
+    /// Offers blocks with these fields, each of which is to be admitted.
+    pub fn admit_all(&mut self, alloc: Global, rows: &[Whole]) -> Result<(), Fail> {
+        for fields in rows {
+            self.admit(alloc, *fields)?;
+        }
         Ok(())
     }
 
-    /// The relay and its shelf.
-    pub fn into_parts(self) -> (Relay, TestShelf) {
-        (self.relay, self.shelf)
-    }
-
-    /// Offers a block with these fields, which is to be admitted.
-    pub fn admit(&mut self, alloc: Global, fields: Whole) -> Result<(), Fail> {
+    fn admit(&mut self, alloc: Global, fields: Whole) -> Result<(), Fail> {
         let block = block_of(alloc, fields)?;
-        offer(alloc, &mut self.relay, block)?;
+        self.offer(alloc, block)?;
         Ok(())
     }
 
     /// Offers the block of a chain with this number, which is to be admitted.
     pub fn admit_chain(&mut self, alloc: Global, num: u64, parent: u64) -> Result<(), Fail> {
         let block = chain_block(alloc, num, parent)?;
-        offer(alloc, &mut self.relay, block)?;
+        self.offer(alloc, block)?;
         Ok(())
     }
 
-    /// Merges all that is due. None where the merge is refused.
-    pub fn merge(&mut self, alloc: Global) -> Option<Answer> {
-        match merge_owned(alloc, &mut self.relay, &mut self.shelf) {
-            Ok(merged) => Some(told(merged, &self.relay)),
-            Err(_) => None,
+    /// Offers a block, which is to be admitted, of the kind that the relay knows.
+    fn offer(&mut self, alloc: Global, block: Block) -> Result<(), Fail> {
+        let block = Arc::new(alloc, block)?;
+        let _ = self.relay.hello(&self.node.kind).is_ok();
+        if !is_admitted(&mut self.relay, block) {
+            Err("a block was not admitted")?;
+        }
+        Ok(())
+    }
+
+    /// Merges all that is due. The reader begins anew, without own files.
+    pub fn merge(&mut self, alloc: Global) -> MergeAnswer {
+        self.own = OwnFiles::new(alloc);
+        let merged = merge_owned(alloc, &mut self.relay, &mut self.shelf);
+        self.told(&merged)
+    }
+
+    /// Merges all that is due onto a shelf whose first call fails.
+    pub fn merge_broken(&mut self, alloc: Global) -> Result<MergeAnswer, Fail> {
+        let mut shelf = shelf_of(alloc, Some(0))?;
+        let merged = merge_owned(alloc, &mut self.relay, &mut shelf);
+        Ok(self.told(&merged))
+    }
+
+    fn told(&self, merged: &Result<Merged, StoreFault>) -> MergeAnswer {
+        match merged {
+            Ok(merged) => MergeAnswer::Merged {
+                bundles: merged.bundles,
+                stored: merged.stored,
+                retained: self.relay.retained(),
+            },
+            Err(StoreFault::ShelfFault) => MergeAnswer::Failed,
+            Err(_) => MergeAnswer::Other,
         }
     }
 
-    /// Merges all that is due where the shelf's first call fails.
-    pub fn merge_broken(&mut self, alloc: Global) -> Result<Option<Answer>, Fail> {
-        let mut shelf = failing_shelf(alloc, 0)?;
-        let answer = match merge_owned(alloc, &mut self.relay, &mut shelf) {
-            Ok(merged) => Some(told(merged, &self.relay)),
-            Err(_) => None,
-        };
-        Ok(answer)
-    }
-
-    /// Whether a merge is refused since the shelf failed.
-    pub fn is_stopped(&mut self, alloc: Global) -> bool {
-        matches!(
-            merge_owned(alloc, &mut self.relay, &mut self.shelf),
-            Err(StoreFault::ShelfFault)
-        )
-    }
-
-    /// How many blocks have their payloads.
-    pub fn retained(&self) -> u64 {
-        self.relay.retained()
+    /// Takes a block with these fields.
+    pub fn take(&mut self, alloc: Global, fields: Whole) -> Result<TakeAnswer, Fail> {
+        let block = block_of(alloc, fields)?;
+        let taken = take_owned(
+            alloc,
+            &mut self.relay,
+            &mut self.shelf,
+            &self.node.name,
+            &mut self.own,
+            block,
+            &self.node.kind,
+        );
+        Ok(answer_of(&taken))
     }
 
     /// Whether of the blocks those from this place on have their payloads, and no others.
@@ -141,48 +198,45 @@ impl Plant {
         Ok(text)
     }
 
-    /// Whether each of these files has its length.
-    pub fn has_sizes(&self, alloc: Global, files: &[FileSize]) -> Result<bool, Fail> {
-        for file in files {
-            let text = text_of(alloc, &self.shelf, file.name)?;
-            if text.len() != file.bytes {
-                return Ok(false);
-            }
-        }
-        Ok(true)
+    /// What is there of a block whose files have these names.
+    pub fn left(&self, alloc: Global, names: Names) -> Result<Left, Fail> {
+        let one = text_of(alloc, &self.shelf, names.one)?;
+        let refused = text_of(alloc, &self.shelf, names.refused)?;
+        Ok(Left {
+            one: !one.is_empty(),
+            refused: !refused.is_empty(),
+            own: self.own.len(),
+            conflicts: self.relay.conflicts().len(),
+            blocks: self.relay.len(),
+        })
     }
 }
 
-/// A relay of bundles of this size that knows its kind.
-fn greeted(alloc: Global, size: u64) -> Result<Relay, Fail> {
-    let mut relay = relay_of(alloc, size)?;
+fn node_of(alloc: Global) -> Result<Node, Fail> {
+    let name = ReaderName::new(alloc, b"r1")?.ok_or("no reader")?;
     let kind = kind(alloc)?;
-    match relay.hello(&kind) {
-        Ok(()) => Ok(relay),
-        Err(_) => Err("another kind")?,
-    }
+    Ok(Node { name, kind })
 }
 
-fn relay_of(alloc: Global, size: u64) -> Result<Relay, Fail> {
+fn relay_of(alloc: Global, wide: bool) -> Result<Relay, AllocError> {
     let mut relay = Relay::new(alloc, 0, 1, LIMITS)?;
-    if size == 1_000 {
+    if wide {
         relay.set_size(1_000);
     }
     Ok(relay)
 }
 
-fn offer(alloc: Global, relay: &mut Relay, block: Block) -> Result<(), Fail> {
-    let block = Arc::new(alloc, block)?;
-    match relay.offer(block) {
-        Ok(Offered::Admitted { .. }) => Ok(()),
-        _ => Err("a block was not admitted")?,
-    }
+fn is_admitted(relay: &mut Relay, block: Arc<Block>) -> bool {
+    let answer = relay.offer(block);
+    matches!(&answer, Ok(Offered::Admitted { .. }))
 }
 
-fn told(merged: Merged, relay: &Relay) -> Answer {
-    Answer {
-        bundles: merged.bundles,
-        stored: merged.stored,
-        retained: relay.retained(),
+fn answer_of(taken: &Result<Offered, TakeFault>) -> TakeAnswer {
+    match taken {
+        Ok(Offered::Admitted { .. }) => TakeAnswer::Admitted,
+        Ok(Offered::Duplicate) => TakeAnswer::Duplicate,
+        Err(TakeFault::Offer(OfferFault::Conflict(_))) => TakeAnswer::Contradicts,
+        Err(TakeFault::Store(StoreFault::ShelfFault)) => TakeAnswer::Failed,
+        _ => TakeAnswer::Other,
     }
 }

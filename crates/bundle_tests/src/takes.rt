@@ -1,8 +1,8 @@
 //! Blocks of a reader that are taken, each with a file of its own, where each call of the shelf fails once.
 
-use crate::forks::forked_plant;
-use crate::plants::Plant;
-use crate::readers::{Answer, Left, Names, Reader};
+use crate::blocks::FORK;
+use crate::forks::{CALLS, MERGED};
+use crate::plants::{Left, Names, Plant, TakeAnswer};
 use history_tests::blocks::{A1, Whole};
 use std::alloc::Global;
 use std::test::Fail;
@@ -22,7 +22,7 @@ struct Case {
     before: Before,
     fields: Whole,
     names: Names,
-    answer: Answer,
+    answer: TakeAnswer,
     stops: &'static [Stop],
 }
 
@@ -45,7 +45,7 @@ const FRESH: Case = Case {
     before: Before::Empty,
     fields: A1,
     names: NAMES,
-    answer: Answer::Admitted,
+    answer: TakeAnswer::Admitted,
     stops: &[Stop {
         from: 0,
         until: 3,
@@ -76,7 +76,7 @@ const CONTRADICTION: Case = Case {
         one: "one/0000000003-19700101T000000.0-p3-a1-1-r1.dbin",
         refused: "refused/0000000003-19700101T000000.0-p3-a1-1-r1.dbin",
     },
-    answer: Answer::Contradicts,
+    answer: TakeAnswer::Contradicts,
     stops: &[
         Stop {
             from: 0,
@@ -139,7 +139,7 @@ const STORED: Case = Case {
     before: Before::Merged,
     fields: A1,
     names: NAMES,
-    answer: Answer::Duplicate,
+    answer: TakeAnswer::Duplicate,
     stops: &[
         Stop {
             from: 0,
@@ -170,72 +170,74 @@ const SWEPT: Left = Left {
     blocks: 4,
 };
 
-fn plant_before(alloc: Global, before: Before) -> Result<Plant, Fail> {
+/// How many calls of the shelf are made before the take.
+fn calls_before(before: Before) -> u64 {
     match before {
-        Before::Empty => Plant::new(alloc),
-        Before::First => small_plant(alloc),
-        Before::Merged => merged_plant(alloc),
+        Before::Empty | Before::First => 0,
+        Before::Merged => CALLS,
     }
 }
 
-fn small_plant(alloc: Global) -> Result<Plant, Fail> {
-    let mut plant = Plant::new(alloc)?;
-    plant.admit(alloc, A1)?;
-    Ok(plant)
-}
-
-fn merged_plant(alloc: Global) -> Result<Plant, Fail> {
-    let mut plant = forked_plant(alloc)?;
-    match plant.merge(alloc) {
-        Some(_) => Ok(plant),
-        None => Err("no merge")?,
+/// Makes an empty plant the one that the block is taken into, and tells whether it did.
+fn prepares(alloc: Global, plant: &mut Plant, before: Before) -> Result<bool, Fail> {
+    match before {
+        Before::Empty => Ok(true),
+        Before::First => {
+            plant.admit_all(alloc, &[A1])?;
+            Ok(true)
+        }
+        Before::Merged => {
+            plant.admit_all(alloc, FORK)?;
+            Ok(plant.merge(alloc) == MERGED)
+        }
     }
 }
 
 /// Whether all stops of a case leave what they are to.
 fn are_made_good(alloc: Global, case: &Case) -> Result<bool, Fail> {
     for stop in case.stops {
-        if !is_made_good(alloc, case, stop)? {
+        if !are_stops_made_good(alloc, case, stop)? {
             return Ok(false);
         }
     }
     Ok(true)
 }
 
-fn is_made_good(alloc: Global, case: &Case, stop: &Stop) -> Result<bool, Fail> {
+fn are_stops_made_good(alloc: Global, case: &Case, stop: &Stop) -> Result<bool, Fail> {
     for call in stop.from..stop.until {
-        let mut reader = reader_failing_at(alloc, case.before, call)?;
-        if !goes_on(alloc, &mut reader, case, stop)? {
+        if !is_made_good(alloc, case, stop, call)? {
             return Ok(false);
         }
     }
     Ok(true)
 }
 
-/// A reader of this plant. The shelf's call of this number fails.
-fn reader_failing_at(alloc: Global, before: Before, call: u64) -> Result<Reader, Fail> {
-    let plant = plant_before(alloc, before)?;
-    let reader = Reader::new(alloc, plant, call)?;
-    Ok(reader)
+fn is_made_good(alloc: Global, case: &Case, stop: &Stop, call: u64) -> Result<bool, Fail> {
+    let fails = call.saturating_add(calls_before(case.before));
+    let mut plant = Plant::new(alloc, false, Some(fails))?;
+    let is_made_good = takes_again(alloc, &mut plant, case, stop);
+    plant.close();
+    is_made_good
 }
 
 /// Whether a take fails and leaves what it is to, and so does the one after it, which does not fail.
-fn goes_on(alloc: Global, reader: &mut Reader, case: &Case, stop: &Stop) -> Result<bool, Fail> {
-    let is_stopped = leaves(alloc, reader, case, Answer::Failed, stop.stopped)?;
-    let is_taken = leaves(alloc, reader, case, case.answer, stop.again)?;
-    Ok(is_stopped && is_taken)
+fn takes_again(alloc: Global, plant: &mut Plant, case: &Case, stop: &Stop) -> Result<bool, Fail> {
+    let is_prepared = prepares(alloc, plant, case.before)?;
+    let is_stopped = leaves(alloc, plant, case, TakeAnswer::Failed, stop.stopped)?;
+    let is_taken = leaves(alloc, plant, case, case.answer, stop.again)?;
+    Ok(is_prepared && is_stopped && is_taken)
 }
 
 /// Whether a take of the block has this answer, and leaves this.
 fn leaves(
     alloc: Global,
-    reader: &mut Reader,
+    plant: &mut Plant,
     case: &Case,
-    answer: Answer,
+    answer: TakeAnswer,
     left: Left,
 ) -> Result<bool, Fail> {
-    let taken = reader.take(alloc, case.fields)?;
-    let found = reader.left(alloc, case.names)?;
+    let taken = plant.take(alloc, case.fields)?;
+    let found = plant.left(alloc, case.names)?;
     Ok(taken == answer && found == left)
 }
 
