@@ -3,7 +3,7 @@
 use crate::files::{File, HEAD, are_alike, shelf_of};
 use crate::relays::{fill, fill_failing};
 use block_relay::Relay;
-use history_tests::blocks::{A1, Whole};
+use history_tests::blocks::{A1, B2, Whole};
 use memory_world::{FailingShelf, MemoryShelf};
 use one_block::StoreFault;
 use relay_look::tip_number;
@@ -37,8 +37,6 @@ enum Answer {
     Other,
 }
 
-const B2: Whole = (2, "b2", 1, "a1", 1, b"1");
-
 const C2: Whole = (2, "c2", 1, "a1", 2, b"1");
 
 const Z5: Whole = (105, "z5", 2, "c2", 105, b"1");
@@ -64,7 +62,8 @@ const ONE: File = File {
 /// The files that a merge of a fork leaves.
 const FORK: &[File] = &[MERGED, FORKED, ONE];
 
-/// What those give.
+/// What those give: all four blocks and the final tip that the last one names. That one alone is not
+/// stored, and of the other three two are final.
 const GIVEN: Answer = Answer::Loads {
     loaded: Loaded {
         admitted: 4,
@@ -174,8 +173,8 @@ fn loads(admitted: u64, waiting: u64, passed: u64, conflicts: u64) -> Loaded {
 /// The room of the histories.
 const ROOM: u64 = 5;
 
-/// Whether these files are answered so, where blocks from `first` on are taken and `bad` is the file that
-/// is named in a refusal.
+/// Whether these files are answered so, where blocks from `first` on are taken and `bad` is the file
+/// that is named in a refusal.
 fn is_answered(
     alloc: Global,
     files: &[File],
@@ -265,8 +264,8 @@ fn bad_files_are_named(rt: HostRuntime) -> Result<(), Fail> {
     Ok(())
 }
 
-/// How many calls of the shelf a load of the fork takes: one for the layout, three lists of names, and two
-/// for each file.
+/// How many calls of the shelf a load of the fork takes: one for the layout, three lists of names, and
+/// two for each file.
 const CALLS: u64 = 10;
 
 /// A shelf with the fork whose call of this number fails.
@@ -295,8 +294,8 @@ fn is_left_alone(alloc: Global, shelf: &MemoryShelf) -> Result<bool, Fail> {
     Ok(alike)
 }
 
-/// Whether a load of the fork whose call of this number fails is refused, another one gives what one alone
-/// gives, and the files are left.
+/// Whether a load of the fork whose call of this number fails is refused, another one gives what one
+/// alone gives, and the files are left.
 fn is_made_good(alloc: Global, call: u64) -> Result<bool, Fail> {
     let mut shelf = failing_shelf(alloc, call)?;
     let good = is_loaded_twice(alloc, &mut shelf)?;

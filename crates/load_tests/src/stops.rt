@@ -17,6 +17,8 @@ struct Case {
     calls: u64,
 }
 
+/// A chain. Eight blocks take three calls each, a bundle of four takes six and one of three five, and a
+/// sweep takes one, two for each block, and one for each of the seven that are stored.
 const CHAIN: Case = Case {
     form: Form {
         forks: false,
@@ -26,6 +28,8 @@ const CHAIN: Case = Case {
     calls: 59,
 };
 
+/// The same with seven blocks beside it: 15 blocks take 45 calls, the bundles 11, the six forked blocks
+/// that are stored three each, and the sweep 1, 30 and 13.
 const FORKS: Case = Case {
     form: Form {
         forks: true,
@@ -35,6 +39,7 @@ const FORKS: Case = Case {
     calls: 118,
 };
 
+/// The first with each bundle ten times as wide.
 const WIDE: Case = Case {
     form: Form {
         forks: false,
@@ -79,8 +84,8 @@ fn load_again(alloc: Global, run: Run) -> Result<Stop, Fail> {
     })
 }
 
-/// Whether a run that stops after so many calls ends exactly where those are all, and what it leaves is
-/// loaded with each block of its history.
+/// Whether a run that stops after so many calls ends exactly where those are all, and what it leaves
+/// is loaded with each block of its history.
 fn is_kept(alloc: Global, case: &Case, calls: u64) -> Result<bool, Fail> {
     let stop = stop_at(alloc, case.form, &case.nums, calls)?;
     Ok(stop.ended == (calls == case.calls) && is_loaded_whole(&stop))
@@ -90,8 +95,8 @@ fn is_loaded_whole(stop: &Stop) -> bool {
     stop.filled.answer.is_ok() && is_front(&stop.old, &stop.filled.relay)
 }
 
-/// Whether each block of a history is in another, and the final path of the one is a front of that of the
-/// other.
+/// Whether each block of a history is in another, and the final path of the one is a front of that of
+/// the other.
 fn is_front(old: &Relay, new: &Relay) -> bool {
     for place in 0..old.len() {
         if !is_there_again(old.slip(place as usize), new) || !is_final_again(place, old, new) {
@@ -142,8 +147,8 @@ fn nothing_is_lost_at_any_stop(rt: HostRuntime) -> Result<(), Fail> {
     Ok(())
 }
 
-/// How many calls 199 blocks take, each of which is looked for, staged and put in place, and the bundle of
-/// the first 99.
+/// How many calls 199 blocks take, each of which is looked for, staged and put in place, and the bundle
+/// of the first 99.
 const MERGED_CALLS: u64 = 199 * 3 + 101;
 
 /// What a stop right after the first bundle was written leaves: the numbers of the final tip and of the

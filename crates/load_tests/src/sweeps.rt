@@ -21,8 +21,8 @@ const NUMS: [u64; 3] = [1, 2, 105];
 /// bundle of two.
 const MERGED_CALLS: u64 = 3 * 3 + 4;
 
-/// How many calls a sweep of their files takes: a list of names, two for each file, and one for each that is
-/// removed.
+/// How many calls a sweep of their files takes: a list of names, two for each file, and one for each
+/// that is removed.
 const CALLS: u64 = 9;
 
 /// The files of the two blocks that are stored.
@@ -41,8 +41,8 @@ struct Store {
     shelf: FailingShelf<MemoryShelf>,
 }
 
-/// What a sweep answers, how many files of stored blocks are there after it, and whether that of the third
-/// block is.
+/// What a sweep answers, how many files of stored blocks are there after it, and whether that of the
+/// third block is.
 #[derive(Clone, Copy, PartialEq, Eq)]
 struct Swept {
     answer: Answer,
@@ -112,7 +112,8 @@ fn is_made_good(alloc: Global, call: u64) -> Result<bool, Fail> {
     Ok(good)
 }
 
-/// Whether a first sweep fails and leaves so many files of stored blocks, and a second one removes them.
+/// Whether a first sweep fails and leaves so many files of stored blocks, and a second one removes
+/// them.
 fn is_swept_twice(alloc: Global, store: &mut Store, stored: u64) -> Result<bool, Fail> {
     let first = sweep(alloc, store)?;
     let second = sweep(alloc, store)?;
@@ -137,8 +138,8 @@ fn whole_sweep(count: u64) -> Swept {
     }
 }
 
-/// How many files of stored blocks are left where the call of this number fails: the last call for the first
-/// of them has the number 3, and that for the second 6.
+/// How many files of stored blocks are left where the call of this number fails: the last call for the
+/// first of them has the number 3, and that for the second 6.
 fn stored_at(call: u64) -> u64 {
     match call {
         0..4 => 2,
