@@ -1,5 +1,6 @@
 -- What one line of a script says, by its words.
 use Rattle.std.specs.Prelude.{ℕ, ◌==◌, ◌||◌, Bool, List, [], ◌∷◌, if◌then◌else◌, Option, None, Some, codes}
+use Rattle.std.specs.Option.{option_map}
 use Rattle.std.specs.Str.{bytes_eq}
 use Rattle.block_record.specs.Number.{number_of}
 use Rattle.script_text.specs.declared.script.Event.{Event}
@@ -45,16 +46,16 @@ abbrev pub reader_event : List ℕ → List ℕ → Option Event
 reader_event word text =
     if bytes_eq word (codes "bytes") then bytes_event text
     else if bytes_eq word (codes "line") then line_event text
-    else if bytes_eq word (codes "death") then name_of text >>= λ name. Some (event.Death name)
+    else if bytes_eq word (codes "death") then option_map (λ x. event.Death x) (name_of text)
     else None
 
 -- an event by its word and what stands after it
 unfoldable pub event_of : List ℕ → List ℕ → Option Event
 event_of word text =
     if bytes_eq word (codes "open") then open_event text
-    else if bytes_eq word (codes "look") then name_of text >>= λ name. Some (event.Look name)
+    else if bytes_eq word (codes "look") then option_map (λ x. event.Look x) (name_of text)
     else if bytes_eq word (codes "part") then part_event text
-    else if bytes_eq word (codes "drop") then name_of text >>= λ name. Some (event.Drop name)
+    else if bytes_eq word (codes "drop") then option_map (λ x. event.Drop x) (name_of text)
     else reader_event word text
 
 -- whether a word is that of a setting
@@ -64,8 +65,8 @@ is_setting word = bytes_eq word (codes "first") || bytes_eq word (codes "run") |
 -- a setting by its word and what stands after it
 unfoldable pub setting_of : List ℕ → List ℕ → Option Setting
 setting_of word text =
-    if bytes_eq word (codes "first") then number_of text >>= λ n. Some (setting.First n)
-    else if bytes_eq word (codes "run") then number_of text >>= λ n. Some (setting.Run n)
+    if bytes_eq word (codes "first") then option_map (λ x. setting.First x) (number_of text)
+    else if bytes_eq word (codes "run") then option_map (λ x. setting.Run x) (number_of text)
     else limit_of text
 
 -- an event of one word, which nothing follows, not even a space
@@ -77,10 +78,10 @@ lone_event word =
 
 -- what a word says with what stands after it
 abbrev pub word_says : List ℕ → Option (List ℕ) → Option Saying
-word_says word None = lone_event word >>= λ e. Some (Tells e)
+word_says word None = option_map (λ e. Tells e) (lone_event word)
 word_says word (Some text) =
-    if is_setting word then setting_of word text >>= λ s. Some (Sets s)
-    else event_of word text >>= λ e. Some (Tells e)
+    if is_setting word then option_map (λ s. Sets s) (setting_of word text)
+    else option_map (λ e. Tells e) (event_of word text)
 
 -- what a line without its LF says; none where it is bad. An empty line, and one that begins with `#`, say nothing
 unfoldable pub line_says : List ℕ → Option Saying

@@ -1,9 +1,8 @@
 -- The settings of a script, each at most once.
 use Rattle.std.specs.Prelude.{ℕ, nat_le, Bool, List, if◌then◌else◌, Option, None, Some, codes}
-use Rattle.std.specs.Option.{is_some}
+use Rattle.std.specs.Option.{is_some, option_map}
 use Rattle.std.specs.Str.{bytes_eq}
 use Rattle.block_relay.specs.declared.limits.Limits.{Limits}
-use Rattle.block_record.specs.Number.{number_of}
 use Rattle.script_text.specs.declared.script.Setting.{Setting}
 use Rattle.script_text.specs.declared.script.Setting.TheVariants as setting
 use Rattle.script_text.specs.declared.settings.Settings.{Settings}
@@ -17,22 +16,22 @@ at_most max n = if nat_le n max then Some n else None
 -- the limit that a word names, where its value is at most its greatest one
 abbrev pub short_limit : List ℕ → ℕ → Option Setting
 short_limit word n =
-    if bytes_eq word (codes "chunk") then at_most 256 n >>= λ n. Some (setting.Chunk n)
-    else if bytes_eq word (codes "deaths") then at_most 5 n >>= λ n. Some (setting.Deaths n)
-    else if bytes_eq word (codes "hold") then at_most 1_000_000 n >>= λ n. Some (setting.Hold n)
+    if bytes_eq word (codes "chunk") then option_map (λ n. setting.Chunk n) (at_most 256 n)
+    else if bytes_eq word (codes "deaths") then option_map (λ n. setting.Deaths n) (at_most 5 n)
+    else if bytes_eq word (codes "hold") then option_map (λ n. setting.Hold n) (at_most 1_000_000 n)
     else None
 
 abbrev pub block_limit : List ℕ → ℕ → Option Setting
 block_limit word n =
-    if bytes_eq word (codes "wait_blocks") then at_most 1_024 n >>= λ n. Some (setting.WaitBlocks n)
-    else if bytes_eq word (codes "wait_bytes") then at_most 536_870_912 n >>= λ n. Some (setting.WaitBytes n)
-    else if bytes_eq word (codes "history") then at_most 4_194_304 n >>= λ n. Some (setting.History n)
+    if bytes_eq word (codes "wait_blocks") then option_map (λ n. setting.WaitBlocks n) (at_most 1_024 n)
+    else if bytes_eq word (codes "wait_bytes") then option_map (λ n. setting.WaitBytes n) (at_most 536_870_912 n)
+    else if bytes_eq word (codes "history") then option_map (λ n. setting.History n) (at_most 4_194_304 n)
     else short_limit word n
 
 unfoldable pub limit_with : List ℕ → ℕ → Option Setting
 limit_with word n =
-    if bytes_eq word (codes "line") then at_most 67_108_864 n >>= λ n. Some (setting.Line n)
-    else if bytes_eq word (codes "request") then at_most 65_536 n >>= λ n. Some (setting.Request n)
+    if bytes_eq word (codes "line") then option_map (λ n. setting.Line n) (at_most 67_108_864 n)
+    else if bytes_eq word (codes "request") then option_map (λ n. setting.Request n) (at_most 65_536 n)
     else block_limit word n
 
 -- a limit by its name and its value, which is at least 1

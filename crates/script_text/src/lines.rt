@@ -36,7 +36,7 @@ fn setting(word: &[u8], text: &[u8]) -> Option<Setting>
 
 /// What a word says with what stands after it.
 fn word_says(alloc: Global, word: &[u8], text: Option<&[u8]>) -> Result<Saying, LineFault>
-    ensures { Gives (λ saying. saying) result (word_says_as word.now (option_copied text)) }
+    ensures { Gives (λ saying. saying) result (word_says_as word.now (option_copied text.entry)) }
 {
     let Some(text) = text else {
         let event = lone_event(word).ok_or(LineFault::Bad)?;

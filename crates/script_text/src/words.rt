@@ -117,6 +117,7 @@ pub fn count_after(text: &[u8]) -> Option<u64>
 /// The bytes that a text in base64 is. It stands apart since the engine's tables are made anew in
 /// each call that names it.
 #[inline(never)]
+#[tactic(auto, unfolding(crate::specs::Words::base64_of))]
 pub fn decoded(alloc: Global, text: &[u8]) -> Result<Bytes, LineFault>
     ensures { Gives (λ bytes. bytes) result (base64_of text.now) }
 {
