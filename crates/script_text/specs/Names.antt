@@ -1,5 +1,5 @@
 -- Whose the names of a script are: a reader's or a client's, by their first use.
-use Rattle.std.specs.Prelude.{ℕ, ◌++◌, Bool, List, [], ◌∷◌, zero, suc, Option, None, Some}
+use Rattle.std.specs.Prelude.{ℕ, ◌++◌, List, [], ◌∷◌, zero, suc, Option, None, Some}
 use Rattle.std.specs.List.{position}
 use Rattle.std.specs.Option.{option_map}
 use Rattle.std.specs.Prelude.{slice_get}

@@ -1,5 +1,5 @@
 -- What a whole text says: its lines in order, each of which must fit those before it.
-use Rattle.std.specs.Prelude.{ℕ, ◌≡◌, ◌+◌, ◌==◌, ◌++◌, Bool, List, [], ◌∷◌, length, if◌then◌else◌, Option, None, Some, Result, Ok, Err}
+use Rattle.std.specs.Prelude.{ℕ, ◌≡◌, ◌+◌, ◌==◌, ◌++◌, List, [], ◌∷◌, length, if◌then◌else◌, Option, None, Some, Result, Ok, Err}
 use Rattle.std.specs.List.{slice_split}
 use Rattle.block_relay.specs.declared.limits.Limits.{Limits}
 use Rattle.script_text.specs.declared.faults.ScriptFault.{ScriptFault}
