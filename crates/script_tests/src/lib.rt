@@ -1,0 +1,7 @@
+//! Tests of scripts.
+#![tactic(auto)]
+
+#[cfg(test)]
+mod events;
+#[cfg(test)]
+mod lines;
