@@ -35,7 +35,7 @@ struct Parts<'a> {
     steps: u64,
 }
 
-fn parts<'a>(word: &'static str, name: &'a [u8], last: &'a [u8], steps: u64) -> Parts<'a> {
+fn parts_with<'a>(word: &'static str, name: &'a [u8], last: &'a [u8], steps: u64) -> Parts<'a> {
     Parts {
         word,
         name,
@@ -47,15 +47,25 @@ fn parts<'a>(word: &'static str, name: &'a [u8], last: &'a [u8], steps: u64) -> 
 fn parts_of(event: &Event) -> Parts<'_> {
     let none = b"".as_slice();
     match event {
-        Event::Bytes { reader, bytes } => parts("bytes", reader.as_bytes(), bytes.as_bytes(), 0),
-        Event::Line { reader, text } => parts("line", reader.as_bytes(), text.as_bytes(), 0),
-        Event::Death { reader } => parts("death", reader.as_bytes(), none, 0),
-        Event::Open { client, request } => parts("open", client.as_bytes(), request.as_bytes(), 0),
-        Event::Look { client } => parts("look", client.as_bytes(), none, 0),
-        Event::Part { client, steps } => parts("part", client.as_bytes(), none, *steps),
-        Event::Drop { client } => parts("drop", client.as_bytes(), none, 0),
-        Event::Merge => parts("merge", none, none, 0),
-        Event::Close => parts("close", none, none, 0),
+        Event::Bytes { reader, bytes } => parts_with(
+            "bytes",
+            reader.as_bytes(),
+            bytes.as_bytes(),
+            0,
+        ),
+        Event::Line { reader, text } => parts_with("line", reader.as_bytes(), text.as_bytes(), 0),
+        Event::Death { reader } => parts_with("death", reader.as_bytes(), none, 0),
+        Event::Open { client, request } => parts_with(
+            "open",
+            client.as_bytes(),
+            request.as_bytes(),
+            0,
+        ),
+        Event::Look { client } => parts_with("look", client.as_bytes(), none, 0),
+        Event::Part { client, steps } => parts_with("part", client.as_bytes(), none, *steps),
+        Event::Drop { client } => parts_with("drop", client.as_bytes(), none, 0),
+        Event::Merge => parts_with("merge", none, none, 0),
+        Event::Close => parts_with("close", none, none, 0),
     }
 }
 
