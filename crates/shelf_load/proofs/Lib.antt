@@ -18,3 +18,4 @@ mod FilesFacts
 mod NumberFacts
 mod ListedFacts
 mod SingleFacts
+mod RunFacts

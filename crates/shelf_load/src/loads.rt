@@ -39,6 +39,7 @@ pub fn load<S: Shelf>(alloc: Global, relay: &mut Relay, shelf: &mut S) -> Result
     // What the files kept of an older relay is there again, with its final path as a front.
     ensures reloads { OnOk result
         (Reloads (S.files shelf.old) (world_told relay.old) (world_told relay.new)) }
+    ensures run { OnOk result ((world_told relay.new).run ≡ (world_told relay.old).run) }
     ensures files { S.files shelf.new ≡ S.files shelf.old }
     ensures staged { S.staged shelf.new ≡ S.staged shelf.old }
     ensures later { S.shelf_faults shelf.old ≤ S.shelf_faults shelf.new }
