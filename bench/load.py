@@ -4,8 +4,8 @@
   load.py BENCH_STORE FIRE_TOOL [BLOCKS [BYTES [ROUNDS]]]
 
 There are 1,000,000 blocks with payloads of 200 bytes where no numbers are given, a hundred in each file, in a new
-folder, which is taken away again. In each round both programs run. It prints each run's processor time, user and
-system together, the most memory of either, and the ratio of the best times.
+folder, which is taken away again. In each round both programs run, and both must end with the last block. It prints
+each run's processor time, user and system together, the most memory of either, and the ratio of the best times.
 """
 import base64
 import hashlib
@@ -67,6 +67,10 @@ def main():
     store, tool = (os.path.abspath(word) for word in sys.argv[1:3])
     blocks, size, rounds = [*map(int, sys.argv[3:]), *(1_000_000, 200, 5)[len(sys.argv) - 3 :]]
     best = {}
+    ends = {
+        "load": f"admitted {blocks} waiting 0 passed 0 conflicts 0 stored {blocks - 1}",
+        "steps": f"new {blocks + 99} b{blocks + 99}",
+    }
     with tempfile.TemporaryDirectory() as folder:
         lines = os.path.join(folder, "lines")
         make_files(os.path.join(folder, "shelf", "merged"), blocks, size)
@@ -74,10 +78,13 @@ def main():
         for _ in range(rounds):
             for words in ([store, "load"], [tool, "steps"]):
                 last, seconds = spent(words, folder, lines)
+                if last != ends[words[1]]:
+                    sys.exit(f"{words[1]} ends with '{last}'")
                 best[words[1]] = min(seconds, best.get(words[1], seconds))
-                print(f"{words[1]}: {seconds:.2f} s, its last line '{last}'", flush=True)
+                print(f"{words[1]}: {seconds:.2f} s", flush=True)
     most = resource.getrusage(resource.RUSAGE_CHILDREN).ru_maxrss / 1e3
-    print(f"load {best['load']:.2f} s, steps {best['steps']:.2f} s, ratio {best['load'] / best['steps']:.2f}, {most:.0f} MB at most")
+    load, steps = best["load"], best["steps"]
+    print(f"load {load:.2f} s, steps {steps:.2f} s, ratio {load / steps:.2f}, {most:.0f} MB at most")
 
 
 main()
