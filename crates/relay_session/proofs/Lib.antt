@@ -2,3 +2,4 @@ mod ServedFacts
 mod LookFacts
 mod NextFacts
 mod GivenFacts
+pub mod public

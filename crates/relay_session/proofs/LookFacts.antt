@@ -2,17 +2,13 @@
 use Rattle.std.proofs.Common.{arith, ◌≡◌, ◌≢◌, ℕ, Bool, true, false, not, cond, ◌||◌, ◌&&◌, map, List, [], ◌∷◌, ◌++◌, length, Option, Some, None, Result, Ok, Err, IfSome, IsSome, inr, refl, sym, ◌∙◌, ap, subst}
 use Rattle.std.specs.Borrow.{Bor}
 use Rattle.std.specs.Option.{option_copied}
-use Rattle.std.proofs.lemmas.List.{length-append, length-map, length-reverse}
 use Rattle.block_record.specs.declared.blocks.Slip.{Slip}
 use Rattle.block_record.specs.declared.blocks.Kind.{Kind}
-use Rattle.chain_model.specs.declared.places.Mode.{Mode}
 use Rattle.chain_model.specs.declared.places.Place.{Place}
 use Rattle.chain_model.specs.Steps.{steps_of}
 use Rattle.step_cursor.specs.declared.cursor.Cursor.{Cursor}
 use Rattle.step_cursor.specs.declared.cursor.Request.{Request}
 use Rattle.step_cursor.specs.declared.cursor.MisfitField.{MisfitField}
-use Rattle.fork_db.specs.declared.batches.Batch.{Batch}
-use Rattle.fork_db.specs.Batches.{IsBatch, step_total}
 use Rattle.relay_model.specs.Worlds.{World}
 use Rattle.relay_model.specs.Soundness.{IsSound}
 use Rattle.relay_model.specs.Looks.{Position, Start, At, Look as Said, Batch as BatchSaid, NotYet, Done, Closing, Unknown, Misfit, StopBelow, looked, look_from, look_idle, look_open, look_known, look_fitted, look_start, look_cursor, is_ahead, is_none, is_final_by, unknown, misfit, stops_below, end_num}
@@ -20,7 +16,6 @@ use Rattle.relay_look.specs.declared.answers.Look.{Look}
 use Rattle.relay_look.specs.declared.answers.Look.TheVariants as look
 use Rattle.relay_look.specs.declared.answers.LookFault.{LookFault}
 use Rattle.relay_look.specs.declared.answers.LookFault.TheVariants as fault
-use Rattle.relay_look.specs.Answers.{IsLook, HasBatchOf}
 use Rattle.reply_text.specs.Replies.{reply_text}
 use Rattle.session_model.specs.declared.over.SessionOver.TheVariants as over
 use Rattle.session_model.specs.Told.{Told as Line, told}
@@ -124,7 +119,7 @@ idle_none w len place = go w.closed
     go true e = absurd (grind (arith, e))
     go false e = absurd (grind (arith, e))
 
-none_at_start : (w : World) (r : Request) (len : ℕ) (place : Place) → w.history ≡ [] → looked w r Start ≡ BatchSaid len place → ⊥
+pub none_at_start : (w : World) (r : Request) (len : ℕ) (place : Place) → w.history ≡ [] → looked w r Start ≡ BatchSaid len place → ⊥
 none_at_start w r len place empty = go r.cursor
   where
     ahead : (c : Cursor) (b : Bool) → cond b (NotYet (length w.history)) (look_known w r c (unknown w.history c)) ≡ BatchSaid len place → ⊥
@@ -155,7 +150,7 @@ kind_given w type s text (Ok (look.Closing len)) kind h x some = tt
 kind_given w type s text (Err e) kind h x some = tt
 
 -- before the first batch the type does not matter
-any_type : (newest : List Slip) (a b : List ℕ) (s : State) (text : List ℕ) → s.progress.lens ≡ [] → HasSent newest a s text → HasSent newest b s text
+pub any_type : (newest : List Slip) (a b : List ℕ) (s : State) (text : List ℕ) → s.progress.lens ≡ [] → HasSent newest a s text → HasSent newest b s text
 any_type newest a b s text none h = record {
   written = record {
     replies = h.written.replies;
