@@ -18,7 +18,3 @@ pub record HasGrown (w v : World) : Type 0 where
 pub record IsInService (t : Told) (s : State) : Type 0 where
   pub served : IsServed t s
   pub bare : (world_told t).kind ≡ None → s.progress.lens ≡ []
-
--- a client in service stays so as the world of its relay grows
-abbrev pub ServiceStays : Type 0
-ServiceStays = (t u : Told) (s : State) → HasGrown (world_told t) (world_told u) → IsInService t s → IsInService u s

@@ -126,7 +126,7 @@ impl Clients {
     {
         match place_of(name, &self.clients) {
             Some(place) => {
-                self.clients[place].client = client;
+                self.clients[place].replace(client);
                 Ok(())
             }
             None => {

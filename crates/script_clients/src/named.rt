@@ -13,6 +13,15 @@ pub struct Named {
     pub client: Option<Client>,
 }
 
+impl Named {
+    /// Puts another client under the name.
+    pub fn replace(&mut self, client: Option<Client>)
+        ensures { self.new ≡ record self.old { client = client } }
+    {
+        self.client = client;
+    }
+}
+
 /// Where the first client of a name stands.
 pub fn place_of(name: &[u8], clients: &[Named]) -> Option<usize>
     ensures place { result ≡ place_in name.now clients.now }

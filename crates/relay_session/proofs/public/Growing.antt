@@ -1,22 +1,26 @@
 -- A client goes on to be served as the history of its relay grows, and as it is looked at.
-use Rattle.std.proofs.Common.{◌≡◌, ℕ, map, List, [], ◌∷◌, ◌++◌, Option, None, Some, IfSome, Ok, inl, inr, refl, sym, ◌∙◌, ap, subst, append_assoc}
+use Rattle.std.proofs.Common.{◌≡◌, ◌-◌, ℕ, Bool, true, false, map, length, take, List, [], ◌∷◌, ◌++◌, Option, None, Some, IfSome, Ok, inl, inr, refl, sym, ◌∙◌, ap, subst, append_assoc}
+use Rattle.std.specs.List.{AllByRecursion}
 use Rattle.block_record.specs.declared.blocks.Slip.{Slip}
 use Rattle.block_record.specs.declared.blocks.Kind.{Kind}
 use Rattle.chain_model.specs.declared.places.Place.{Place}
 use Rattle.step_cursor.specs.declared.cursor.Request.{Request}
 use Rattle.relay_model.specs.Worlds.{World}
 use Rattle.relay_model.specs.Soundness.{IsSound}
-use Rattle.relay_model.specs.Chronicles.{Entry, Opened, Kind as KindEntry, Admitted, Waited, Stored, Closed, history_of}
+use Rattle.relay_model.specs.Chronicles.{Entry, Opened, Kind as KindEntry, Admitted, Waited, Stored, Closed, added, added_by, history_of, kind_added, kind_of, run_of}
+use Rattle.relay_model.specs.Offers.{intake, judge}
+use Rattle.relay_model.specs.Verdicts.{Verdict}
+use Rattle.relay_model.specs.Verdicts as verdict
 use Rattle.relay_model.specs.Looks.{Position, Start, At, Look as Said, Batch as BatchSaid, NotYet, Done, Closing, Unknown, Misfit, StopBelow, looked}
 use Rattle.session_model.specs.Told.{Told as Line, told}
 use Rattle.session_model.specs.Progress.{Stage, Waits, Progress, after_look}
 use Rattle.session_model.specs.Standing.{StandsAt}
-use Rattle.block_relay.specs.Chronicle.{Told, world_told}
+use Rattle.block_relay.specs.Chronicle.{Told, closed_entries, greeted, world_told}
 use Rattle.client_stream.specs.Sessions.{State, new_state}
-use Rattle.client_stream.specs.Sent.{HasSent, NothingSent}
+use Rattle.client_stream.specs.Sent.{HasSent}
 use Rattle.relay_session.specs.declared.turn.Turn.{Turn}
 use Rattle.relay_session.specs.declared.turn.Turn.TheVariants as turn
-use Rattle.relay_session.specs.Growing.{HasGrown, IsInService, ServiceStays}
+use Rattle.relay_session.specs.Growing.{HasGrown, IsInService}
 use Rattle.relay_session.specs.Serving.{Serves, GoesOn}
 use Rattle.relay_session.specs.Turns.{IsAsked, IsStill, IsTurn, WasStopped}
 use Rattle.relay_session.proofs.LookFacts.{any_type, none_at_start}
@@ -36,6 +40,89 @@ history_of-append (Closed ∷ more) es = history_of-append more es
 pub grown_by : (t u : Told) (more : List Entry) → u.entries ≡ more ++ t.entries → (world_told u).run ≡ (world_told t).run
     → ((k : Kind) → (world_told t).kind ≡ Some k → (world_told u).kind ≡ Some k) → HasGrown (world_told t) (world_told u)
 grown_by t u more e run kind = record { more = history_of more; history = ap history_of e ∙ history_of-append more t.entries; run_is = run; kind = kind }
+
+-- an entry opens nothing, and tells a kind only where there is none yet
+abbrev pub GoesAfter : Entry → Option Kind → Type 0
+GoesAfter (Opened first run limits size) kind = ⊥
+GoesAfter (KindEntry k) None = Unit {0}
+GoesAfter (KindEntry k) (Some held) = ⊥
+GoesAfter (Admitted s) kind = Unit {0}
+GoesAfter (Waited s) kind = Unit {0}
+GoesAfter (Stored at) kind = Unit {0}
+GoesAfter Closed kind = Unit {0}
+
+abbrev pub AllGoAfter : Option Kind → List Entry → Type 0
+AllGoAfter kind more = AllByRecursion (λ e. GoesAfter e kind) more
+
+run_after : (kind : Option Kind) (more es : List Entry) → AllGoAfter kind more → run_of (more ++ es) ≡ run_of es
+run_after kind [] es all = refl
+run_after kind (Opened first run limits size ∷ more) es all = absurd all.0
+run_after kind (KindEntry k ∷ more) es all = run_after kind more es all.1
+run_after kind (Admitted s ∷ more) es all = run_after kind more es all.1
+run_after kind (Waited s ∷ more) es all = run_after kind more es all.1
+run_after kind (Stored at ∷ more) es all = run_after kind more es all.1
+run_after kind (Closed ∷ more) es all = run_after kind more es all.1
+
+kind_after : (k : Kind) (more es : List Entry) → AllGoAfter (Some k) more → kind_of (more ++ es) ≡ kind_of es
+kind_after k [] es all = refl
+kind_after k (Opened first run limits size ∷ more) es all = absurd all.0
+kind_after k (KindEntry j ∷ more) es all = absurd all.0
+kind_after k (Admitted s ∷ more) es all = kind_after k more es all.1
+kind_after k (Waited s ∷ more) es all = kind_after k more es all.1
+kind_after k (Stored at ∷ more) es all = kind_after k more es all.1
+kind_after k (Closed ∷ more) es all = kind_after k more es all.1
+
+-- so a relay grows by such entries
+pub grown_after : (t u : Told) (more : List Entry) → u.entries ≡ more ++ t.entries → AllGoAfter (world_told t).kind more → HasGrown (world_told t) (world_told u)
+grown_after t u more e all =
+    grown_by t u more e (ap run_of e ∙ run_after (world_told t).kind more t.entries all)
+    (λ k is. ap kind_of e ∙ kind_after k more t.entries (subst (λ (o : Option Kind). AllGoAfter o more) is all) ∙ is)
+
+-- as nodes say of themselves, as blocks are offered, and as it is closed
+pub grown_greeted : (t u : Told) (k : Kind) → u.entries ≡ greeted (world_told t).kind k t.entries → HasGrown (world_told t) (world_told u)
+grown_greeted t u k e = by (world_told t).kind refl (λ o is. subst (λ (x : Option Kind). u.entries ≡ greeted x k t.entries) is e)
+  where
+    by : (o : Option Kind) → (world_told t).kind ≡ o → ((x : Option Kind) → (world_told t).kind ≡ x → u.entries ≡ greeted x k t.entries) → HasGrown (world_told t) (world_told u)
+    by None is said = grown_after t u (KindEntry k ∷ []) (said None is) (subst (λ (x : Option Kind). AllGoAfter x (KindEntry k ∷ [])) (sym is) (tt, tt))
+    by (Some held) is said = grown_after t u [] (said (Some held) is) tt
+
+all_admitted : (kind : Option Kind) (xs : List Slip) (es : List Entry) → AllGoAfter kind es → AllGoAfter kind (map Admitted xs ++ es)
+all_admitted kind [] es all = all
+all_admitted kind (s ∷ xs) es all = (tt, all_admitted kind xs es all)
+
+all_kind : (kind : Option Kind) (history : List Slip) → AllGoAfter kind (kind_added kind history)
+all_kind None [] = (tt, tt)
+all_kind None (s ∷ history) = tt
+all_kind (Some k) history = tt
+
+all_added : (w : World) (s : Slip) (v : Verdict) → AllGoAfter w.kind (added_by w s v)
+all_added w s verdict.Closed = tt
+all_added w s verdict.Duplicate = tt
+all_added w s (verdict.Conflict c) = tt
+all_added w s verdict.Early = tt
+all_added w s verdict.Stale = tt
+all_added w s verdict.WaitFull = tt
+all_added w s verdict.Waiting = (tt, tt)
+all_added w s (verdict.HistoryFull need) = tt
+all_added w s verdict.Admitted = all_admitted w.kind (take (length (intake w s).history - length w.history) (intake w s).history) (kind_added w.kind w.history) (all_kind w.kind w.history)
+
+pub grown_offered : (t u : Told) (s : Slip) → u.entries ≡ added (world_told t) s ++ t.entries → HasGrown (world_told t) (world_told u)
+grown_offered t u s e = grown_after t u (added (world_told t) s) e (all_added (world_told t) s (judge (world_told t) s))
+
+pub grown_closed : (t u : Told) → u.entries ≡ closed_entries (world_told t).closed t.entries → HasGrown (world_told t) (world_told u)
+grown_closed t u = by (world_told t).closed
+  where
+    by : (b : Bool) → u.entries ≡ closed_entries b t.entries → HasGrown (world_told t) (world_told u)
+    by true e = grown_after t u [] e tt
+    by false e = grown_after t u (Closed ∷ []) e (tt, tt)
+
+-- as places come to be stored
+all_stored : (kind : Option Kind) (stored : List ℕ) → AllGoAfter kind (map Stored stored)
+all_stored kind [] = tt
+all_stored kind (at ∷ stored) = (tt, all_stored kind stored)
+
+pub grown_stored : (t u : Told) (stored : List ℕ) → u.entries ≡ map Stored stored ++ t.entries → HasGrown (world_told t) (world_told u)
+grown_stored t u stored e = grown_after t u (map Stored stored) e (all_stored (world_told t).kind stored)
 
 -- a world has grown into itself, and on
 pub grown_none : (w : World) → HasGrown w w
@@ -74,7 +161,8 @@ serves_later t u older type s text g bare h = by (world_told t).kind (world_told
           (subst (λ (o : Option Kind). IfSome o (λ x. x.block_type ≡ k.block_type)) (sym is) refl),
     )
 
-pub service_stays : ServiceStays
+-- a client in service stays so as the world of its relay grows
+pub service_stays : (t u : Told) (s : State) → HasGrown (world_told t) (world_told u) → IsInService t s → IsInService u s
 service_stays t u s g h =
     let later = serves_later t u h.served.older h.served.type s h.served.text g h.bare h.served.serves in
     record {
@@ -87,21 +175,28 @@ service_stays t u s g h =
     unkept (Some k) was none = let never : None ≡ Some k = sym none ∙ g.kind k was in absurd (cc)
 
 -- a new client is in service at each relay of its run
-pub service_begins : NothingSent → (t : Told) (r : Request) (run : ℕ) → (world_told t).run ≡ run → IsInService t (new_state r run)
-service_begins nothing t r run is = go (world_told t).kind refl
+pub service_begins : (t : Told) (s : State) (r : Request) (run : ℕ) → s ≡ new_state r run → ((newest : List Slip) (type : List ℕ) → HasSent newest type s [])
+    → (world_told t).run ≡ run → IsInService t s
+service_begins t s r run new nothing is = go (world_told t).kind refl
   where
-    served : (type : List ℕ) → IfSome (world_told t).kind (λ k. k.block_type ≡ type) → IsInService t (new_state r run)
+    served : (type : List ℕ) → IfSome (world_told t).kind (λ k. k.block_type ≡ type) → IsInService t s
     served type type_is = record {
       served = record {
         older = (world_told t).history;
         type = type;
         text = [];
-        serves = record { sent = nothing (world_told t).history type r run; more = []; grown = refl; run_is = is; type_is = type_is };
+        serves = record {
+          sent = nothing (world_told t).history type;
+          more = [];
+          grown = refl;
+          run_is = is ∙ sym (ap (λ (x : State). x.progress.run_number) new);
+          type_is = type_is;
+        };
       };
-      bare = λ none. refl;
+      bare = λ none. ap (λ (x : State). x.progress.lens) new;
     }
 
-    go : (a : Option Kind) → (world_told t).kind ≡ a → IsInService t (new_state r run)
+    go : (a : Option Kind) → (world_told t).kind ≡ a → IsInService t s
     go None e = served [] (subst (λ (o : Option Kind). IfSome o (λ x. x.block_type ≡ [])) (sym e) tt)
     go (Some k) e = served k.block_type (subst (λ (o : Option Kind). IfSome o (λ x. x.block_type ≡ k.block_type)) (sym e) refl)
 

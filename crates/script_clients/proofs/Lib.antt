@@ -1,0 +1,2 @@
+mod ClientFacts
+mod LookFacts
