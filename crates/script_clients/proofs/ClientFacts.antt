@@ -1,7 +1,7 @@
 -- The clients of a replay as a map, and that a relay serves them.
-use Rattle.std.proofs.Common.{arith, cond, ◌≡◌, ◌≢◌, ◌<◌, ◌≤◌, ◌++◌, ℕ, zero, suc, not, Bool, true, false, List, [], ◌∷◌, length, Option, None, Some, Result, Ok, Err, OnErr, OnOk, ltb, get_or, filter, refl, sym, ◌∙◌, ap, subst}
+use Rattle.std.proofs.Common.{arith, cond, ◌≡◌, ◌≢◌, ◌<◌, ◌≤◌, ◌++◌, ℕ, zero, suc, not, Bool, true, false, List, [], ◌∷◌, length, Option, None, Some, Result, Ok, Err, OnErr, OnOk, ltb, get_or, refl, sym, ◌∙◌, ap, subst}
 use Rattle.std.specs.Str.{bytes_eq}
-use Rattle.std.specs.List.{position, position_or_len}
+use Rattle.std.specs.List.{position_or_len}
 use Rattle.std.proofs.Math.ListN.{set}
 use Rattle.std.proofs.lemmas.Bool.{ltb-false}
 use Rattle.std.proofs.lemmas.List.Quantifiers.{position-Some}

@@ -1,7 +1,6 @@
 -- What an event of a client brings about.
 use Rattle.std.proofs.Common.{◌≡◌, ◌<◌, ◌++◌, ℕ, length, List, [], Option, None, Some, Result, Ok, Err, IfErr, IfOk, OnErr, OnOk, inl, inr, refl, sym, ◌∙◌, ap, subst}
 use Rattle.std.specs.Result.{IsOk}
-use Rattle.std.specs.Prelude.{◌⊎◌}
 use Rattle.std.proofs.Math.ListN.{set}
 use Rattle.std.proofs.Common.{get_or}
 use Rattle.outer_world.specs.Files.{Files}
@@ -10,14 +9,12 @@ use Rattle.one_block.specs.declared.faults.StoreFault.TheVariants as store
 use Rattle.relay_model.specs.Soundness.{IsSound}
 use Rattle.block_relay.specs.Chronicle.{Told, world_told}
 use Rattle.client_stream.specs.Sessions.{State}
-use Rattle.session_model.specs.Progress.{Progress}
 use Rattle.relay_session.specs.declared.turn.Turn.{Turn}
 use Rattle.relay_session.specs.Growing.{IsInService}
 use Rattle.relay_session.specs.Serving.{GoesOn}
 use Rattle.relay_session.specs.Turns.{HasCause, IsStill, IsTurn, WasStopped}
 use Rattle.relay_session.proofs.public.Growing.{service_on, turn_stopped}
 use Rattle.replay_text.specs.Lines.{over_line}
-use Rattle.replay_text.specs.Replies.{client_lines}
 use Rattle.script_clients.specs.declared.named.Named.{Named}
 use Rattle.script_clients.specs.Clients.{client_of, place_of, with_client}
 use Rattle.script_clients.specs.Looking.{HasLooked, HasStopped, IsLooked, IsStopped, IsTold, TurnsOne, WasGone, look_lines}

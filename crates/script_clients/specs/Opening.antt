@@ -1,5 +1,5 @@
 -- What a request line opens.
-use Rattle.std.specs.Prelude.{ℕ, ◌≡◌, ◌<◌, ◌≤◌, ◌++◌, ◌⊎◌, List, length, Option, None, Some, Result, Ok, Err}
+use Rattle.std.specs.Prelude.{ℕ, ◌≡◌, ◌<◌, ◌≤◌, ◌++◌, ◌⊎◌, List, length, None, Some, Result, Ok, Err}
 use Rattle.step_cursor.specs.declared.cursor.Request.{Request}
 use Rattle.client_stream.specs.Sessions.{new_state}
 use Rattle.reply_text.specs.declared.errors.ErrorLine.{ErrorLine}

@@ -1,4 +1,5 @@
 use Rattle.std.proofs.Common.{◌≡◌, ◌++◌, ◌∙◌, sym, ap, subst, List, [], ◌∷◌, Some, None}
+use Rattle.std.proofs.Math.ListN.{set}
 use Rattle.script_clients.specs.declared.named.Named.{Named}
 use Rattle.script_clients.specs.Clients.{place_of, with_client}
 use Rattle.script_clients.proofs.ClientFacts.{put_at, put_last}
@@ -9,7 +10,8 @@ returns-in-Some-clause-ok c =
     let name = c.args.name.now in
     let clients = c.self.inside.clients.items in
     let place_is = subst (λ (l : List Named). place_of name l ≡ Some c.in-Some.place) c.deref.ensures.value (sym c.place_of.ensures.place ∙ c.in-Some.is) in
-    put_at name c.args.client clients c.in-Some.place c.index_mut.result.now place_is c.index_mut.ensures.value ∙ ap (with_client name c.args.client) c.self.view_is
+    ap (λ (x : Named). set clients c.in-Some.place x) c.replace.ensures
+    ∙ put_at name c.args.client clients c.in-Some.place c.index_mut.result.now place_is c.index_mut.ensures.value ∙ ap (with_client name c.args.client) c.self.view_is
 
 pub returns-in_ok-push-in-None-clause-ok : goal.returns-in_ok-push-in-None-clause-ok
 returns-in_ok-push-in-None-clause-ok c =

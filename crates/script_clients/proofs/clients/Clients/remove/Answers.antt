@@ -1,4 +1,4 @@
-use Rattle.std.proofs.Common.{◌≡◌, ◌∙◌, sym, ap, subst, List, not, rules}
+use Rattle.std.proofs.Common.{◌∙◌, sym, ap, subst, not, rules}
 use Rattle.std.proofs.lemmas.Fn.{filter_same}
 use Rattle.script_clients.specs.declared.named.Named.{Named}
 use Rattle.script_clients.specs.Clients.{has_name, without_client}
