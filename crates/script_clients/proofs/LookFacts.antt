@@ -1,8 +1,7 @@
 -- What an event of a client brings about.
-use Rattle.std.proofs.Common.{◌≡◌, ◌<◌, ◌++◌, ℕ, length, List, [], Option, None, Some, Result, Ok, Err, IfErr, IfOk, OnErr, OnOk, inl, inr, refl, sym, ◌∙◌, ap, subst}
+use Rattle.std.proofs.Common.{◌≡◌, ◌<◌, ◌++◌, ℕ, length, get_or, List, [], Option, None, Some, Result, Ok, Err, IfErr, IfOk, OnErr, OnOk, inl, inr, refl, sym, ◌∙◌, ap, subst}
 use Rattle.std.specs.Result.{IsOk}
 use Rattle.std.proofs.Math.ListN.{set}
-use Rattle.std.proofs.Common.{get_or}
 use Rattle.outer_world.specs.Files.{Files}
 use Rattle.one_block.specs.declared.faults.StoreFault.{StoreFault}
 use Rattle.one_block.specs.declared.faults.StoreFault.TheVariants as store

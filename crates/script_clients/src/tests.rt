@@ -89,7 +89,7 @@ impl Plant {
             Event::Open(name, line) => self.open(alloc, name.as_bytes(), line.as_bytes()),
             Event::Look(name, most) => self.look(alloc, name.as_bytes(), most),
             Event::Remove(name) => {
-                self.clients.remove(name.as_bytes());
+                self.remove(name.as_bytes());
                 Ok(())
             }
         }
@@ -99,6 +99,10 @@ impl Plant {
         self.clients
             .open(alloc, RUN, LIMITS, name, line, &mut self.out)?;
         Ok(())
+    }
+
+    fn remove(&mut self, name: &[u8]) {
+        self.clients.remove(name);
     }
 
     fn look(&mut self, alloc: Global, name: &[u8], most: Option<u64>) -> Result<(), Fail> {
