@@ -2,6 +2,12 @@
 #![tactic(auto)]
 
 #[cfg(test)]
+mod plants;
+#[cfg(test)]
+mod printing;
+#[cfg(test)]
 mod replies;
 #[cfg(test)]
 mod requests;
+#[cfg(test)]
+mod sessions;

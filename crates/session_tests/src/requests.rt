@@ -3,7 +3,7 @@
 use chain_model::Mode;
 use reply_text::RequestField;
 use request_text::{RequestFault, parse_request, print_request};
-use std::alloc::Global;
+use std::alloc::{AllocError, Global};
 use std::process::Abort;
 use std::test::Fail;
 use step_cursor::Request;
@@ -12,7 +12,7 @@ use step_cursor::Request;
 /// cursor.
 type Asking = (&'static str, u64, Option<u64>, Mode, bool);
 
-const GOOD: [Asking; 16] = [
+const GOOD: [Asking; 20] = [
     ("{}", 0, None, Mode::Live, false),
     (" { } ", 0, None, Mode::Live, false),
     ("{\"start_block_num\":9}", 9, None, Mode::Live, false),
@@ -58,6 +58,22 @@ const GOOD: [Asking; 16] = [
     ),
     ("{\"start\\u005fblock_num\":4}", 4, None, Mode::Live, false),
     (
+        "{\"start_block_num\":1,\"start\\u005fblock_num\":4}",
+        4,
+        None,
+        Mode::Live,
+        false,
+    ),
+    ("{\"\\u0063ursor\":\"\"}", 0, None, Mode::Live, false),
+    (
+        "{\"final_blocks_only\":false,\"final_blocks_only\":true}",
+        0,
+        None,
+        Mode::Final,
+        false,
+    ),
+    ("{\"cursor\":7,\"cursor\":\"\"}", 0, None, Mode::Live, false),
+    (
         "{\"stop_block_num\": 5 , \"start_block_num\" : 6}",
         6,
         Some(5),
@@ -93,7 +109,7 @@ fn good_lines_are_read(rt: HostRuntime) -> Result<(), Fail> {
     Ok(())
 }
 
-const BAD: [(&str, RequestField); 30] = [
+const BAD: [(&str, RequestField); 33] = [
     ("", RequestField::Shape),
     ("null", RequestField::Shape),
     ("[]", RequestField::Shape),
@@ -101,6 +117,7 @@ const BAD: [(&str, RequestField); 30] = [
     ("{", RequestField::Shape),
     ("{}{}", RequestField::Shape),
     ("{\"start_block_num\":00}", RequestField::Shape),
+    ("{\"stop_block_num\":00}", RequestField::Shape),
     ("{\"start_block_num\":+1}", RequestField::Shape),
     ("{\"start_block_num\":1e999}", RequestField::Shape),
     ("{\"other\":1e999}", RequestField::Shape),
@@ -108,6 +125,14 @@ const BAD: [(&str, RequestField); 30] = [
     (
         "{\"other\":null,\"start_block_num\":-1}",
         RequestField::Extra,
+    ),
+    (
+        "{\"start_block_num\":1,\"start\\u002dblock_num\":1}",
+        RequestField::Extra,
+    ),
+    (
+        "{\"stop_block_num\":9,\"stop_block_num\":1e3}",
+        RequestField::Stop,
     ),
     ("{\"start_block_num\":-1}", RequestField::Start),
     ("{\"start_block_num\":-0}", RequestField::Start),
@@ -159,6 +184,91 @@ fn bad_lines_are_refused_for_their_first_part(rt: HostRuntime) -> Result<(), Fai
         }
     }
     Ok(())
+}
+
+/// A member of a request, with the one of the values below that it may have, and the part of which a
+/// line with another one is refused.
+#[derive(Clone, Copy)]
+struct Member {
+    name: &'static str,
+    good: &'static str,
+    field: RequestField,
+}
+
+const MEMBERS: [Member; 5] = [
+    Member {
+        name: "start_block_num",
+        good: "7",
+        field: RequestField::Start,
+    },
+    Member {
+        name: "stop_block_num",
+        good: "7",
+        field: RequestField::Stop,
+    },
+    Member {
+        name: "final_blocks_only",
+        good: "true",
+        field: RequestField::FinalOnly,
+    },
+    Member {
+        name: "cursor",
+        good: "\"\"",
+        field: RequestField::Cursor,
+    },
+    Member {
+        name: "other",
+        good: "none",
+        field: RequestField::Extra,
+    },
+];
+
+/// Values of each kind, and numbers that are no number of a block.
+const VALUES: [&str; 10] = [
+    "null",
+    "true",
+    "7",
+    "\"\"",
+    "[]",
+    "{}",
+    "1.0",
+    "1e3",
+    "-0",
+    "18446744073709551616",
+];
+
+#[test]
+fn each_member_has_values_of_one_kind(rt: HostRuntime) -> Result<(), Fail> {
+    let alloc = rt.alloc();
+    for member in MEMBERS {
+        for value in VALUES {
+            let holds = is_judged(alloc, member, value)?;
+            assert!(rt; holds, "{} is {value}", member.name);
+        }
+    }
+    Ok(())
+}
+
+/// Whether a line with this member alone is read where the value is the good one, and else is refused
+/// for the member.
+fn is_judged(alloc: Global, member: Member, value: &str) -> Result<bool, Fail> {
+    let line = member_line(alloc, member.name, value)?;
+    match parse_request(alloc, line.as_slice()) {
+        Ok(_) => Ok(value == member.good),
+        Err(RequestFault::BadRequest { field }) => Ok(
+            value != member.good && field == member.field,
+        ),
+        Err(fault) => Err(fault.into()),
+    }
+}
+
+/// A line with one member.
+fn member_line(alloc: Global, name: &str, value: &str) -> Result<Vec<u8>, AllocError> {
+    let mut line = Vec::new(alloc);
+    for part in ["{\"", name, "\":", value, "}"] {
+        line.extend_from_slice(part.as_bytes())?;
+    }
+    Ok(line)
 }
 
 #[test]
