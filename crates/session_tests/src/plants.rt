@@ -142,7 +142,7 @@ fn greeted(alloc: Global) -> Result<Relay, Fail>
     let kind = kind(alloc)?;
     match relay.hello(&kind) {
         Ok(()) => Ok(relay),
-        Err(_) => Err("another kind".into()),
+        Err(_) => Err("the kind was not kept".into()),
     }
 }
 
