@@ -1,0 +1,4 @@
+pub mod Feeding
+pub mod Growing
+pub mod Outcomes
+pub mod Readers
