@@ -3,7 +3,7 @@ use Rattle.std.specs.Prelude.{ℕ, ◌≡◌, ◌⊎◌, Bool, true, false, List
 use Rattle.one_block.specs.declared.faults.StoreFault.{StoreFault}
 use Rattle.block_record.specs.declared.blocks.Slip.{Slip}
 use Rattle.fire_lines.specs.declared.faults.LineFault.{LineFault}
-use Rattle.fire_lines.specs.Reader.{ReaderState, state_after}
+use Rattle.fire_lines.specs.Reader.{ReaderState, AreFurther, state_after}
 use Rattle.fire_lines.specs.Text.{received}
 use Rattle.replay_text.specs.Lines.{over_line}
 use Rattle.node_feed.specs.Feeding.{fed_by, further}
@@ -56,6 +56,8 @@ PieceAnswers text piece r now old new (Err fault) = IsStoppedFeed text piece r o
 
 -- a piece after this text was read: its first bad line, where there is one, and the slips that it adds
 pub record IsPieceRead (max : ℕ) (text piece : List ℕ) (bad : Option LineFault) (now : ReaderState) (before after : List Slip) : Type 0 where
-  pub bad_is : bad ≡ (received max (text ++ piece)).fault
+  pub more : List Slip
+  pub adds : AreFurther max text piece more
+  pub blocks : after ≡ before ++ more
+  pub bad_is : (received max (text ++ piece)).fault ≡ bad
   pub state : now ≡ state_after max (text ++ piece)
-  pub grows : after ≡ before ++ further max text piece

@@ -1,10 +1,11 @@
 //! What a reader's node says of itself.
 
-ghost use Rattle.std.specs.Prelude.{◌≡◌, ◌≤◌, map};
+ghost use Rattle.std.specs.Prelude.{◌≤◌, Option, map};
 ghost use Rattle.std.specs.Option.{option_copied};
 ghost use Rattle.block_record.specs.Slips.{slip};
 ghost use Rattle.block_relay.specs.Chronicle.{world_told};
 ghost use Rattle.block_reader.specs.Kept.{AreOwn, KeepsTold};
+ghost use Rattle.outer_world.specs.Files.{Files};
 ghost use Rattle.node_feed.specs.Growing.{IsGrown};
 ghost use Rattle.node_feed.specs.Outcomes.{GreetAnswers, KindAnswers, outside};
 
@@ -62,13 +63,16 @@ fn greet(
     ensures answer { GreetAnswers name.now kind.now relay.old relay.new
         out.old.items out.new.items result }
     ensures grows { IsGrown relay.old relay.new }
+    ensures kept { (files : Option Files) → KeepsTold files (world_told relay.old)
+        → KeepsTold files (world_told relay.new) }
 {
     match relay.hello(kind) {
         Ok(()) => Ok(false),
-        Err(KindFault::Mem) => Err(StoreFault::Mem),
-        Err(clash) => {
+        Err(KindFault::KindClash { held, offered }) => {
+            let clash = KindFault::KindClash { held, offered };
             push_kind_fault(name.as_bytes(), &clash, out)?;
             Ok(true)
         }
+        Err(KindFault::Mem) => Err(StoreFault::Mem),
     }
 }

@@ -2,9 +2,11 @@
 
 ghost use Rattle.std.specs.Prelude.{◌≡◌, ◌≤◌, [], ◌++◌, ℕ, List, false, true, IfErr, OnErr, OnOk};
 ghost use Rattle.std.specs.Result.{IsOk};
+ghost use Rattle.block_record.specs.Words.{GrowsByFront};
 ghost use Rattle.block_relay.specs.Chronicle.{world_told};
 ghost use Rattle.block_reader.specs.Kept.{AreOwn, KeepsTold};
 ghost use Rattle.fire_lines.specs.Reader.{state_after};
+ghost use Rattle.node_feed.specs.Feeding.{fed_by};
 ghost use Rattle.node_feed.specs.Growing.{IsGrown};
 ghost use Rattle.node_feed.specs.Outcomes.{outside};
 ghost use Rattle.node_feed.specs.Readers.{IsFed, IsStoppedFeed, OverAnswers, PieceAnswers, end_lines, ended, node_state};
@@ -101,6 +103,12 @@ impl NodeReader {
             (outside relay.new (S.files shelf.new) own.new (S.shelf_faults shelf.new)
             out.new.items)) }
 
+        // Its lines are a front of those that the piece brings.
+        ensures lines { self.old.over ≡ false → (text : List ℕ)
+            → self.old.lines ≡ state_after self.old.lines.max text
+            → OnErr result (GrowsByFront out.old.items out.new.items
+            (fed_by self.old.name self.old.lines.max text piece.now relay.old).lines) }
+
         // Whatever the answer is, it is the same reader, and what was told before of the relay stays.
         ensures named { self.new.name ≡ self.old.name }
         ensures limit { self.new.lines.max ≡ self.old.lines.max }
@@ -171,6 +179,7 @@ impl NodeReader {
         ensures ends { self.old.over ≡ false → IsOk result }
     {
         if self.is_over {
+            // It stays over.
             push_over(self.name.as_bytes(), out)?;
             return Ok(());
         }

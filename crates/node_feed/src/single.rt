@@ -1,6 +1,6 @@
 //! One block of a reader.
 
-ghost use Rattle.std.specs.Prelude.{◌≡◌, ◌≤◌};
+ghost use Rattle.std.specs.Prelude.{◌≡◌, ◌≤◌, IfOk};
 ghost use Rattle.block_record.specs.Slips.{slip};
 ghost use Rattle.block_relay.specs.Chronicle.{world_told};
 ghost use Rattle.block_reader.specs.Kept.{AreOwn, KeepsTold};
@@ -9,12 +9,12 @@ ghost use Rattle.node_feed.specs.Growing.{IsGrown};
 ghost use Rattle.node_feed.specs.Outcomes.{SlipAnswers, outside};
 
 use block_reader::{OwnFiles, TakeFault, take_owned};
-use block_record::{Block, Kind, ReaderName};
+use block_record::{Block, Id, Kind, ReaderName};
 use block_relay::{OfferFault, Offered, Relay};
 use one_block::StoreFault;
 use outer_world::Shelf;
-use replay_text::push_taken;
-use std::alloc::Global;
+use replay_text::{answers_are_told, push_taken};
+use std::alloc::{AllocError, Global};
 
 /// Takes a block into the relay, and tells what became of it. Answers whether it was refused, so that its
 /// reader is over.
@@ -39,11 +39,19 @@ pub(crate) fn feed_block<S: Shelf>(
         → KeepsTold (S.files shelf.new) (world_told relay.new) }
     ensures later { S.shelf_faults shelf.old ≤ S.shelf_faults shelf.new }
 {
+    answers_are_told();
     let num = block.num;
-    let id = block.id.clone()?;
+    let id = copy_id(&block.id)?;
     let answer = take_owned(alloc, relay, shelf, name, own, block, kind);
     push_taken(name.as_bytes(), num, &id, &answer, out)?;
     refuses_reader(answer)
+}
+
+fn copy_id(id: &Id) -> Result<Id, AllocError>
+    ensures { IfOk result (λ copy. copy ≡ id.now) }
+{
+    let copy = id.clone()?;
+    Ok(copy)
 }
 
 /// Whether the answer to a block refuses its reader. A refusal of the shelf itself, and want of memory,

@@ -1,0 +1,6 @@
+mod FrontFacts
+mod GrowFacts
+mod KindFacts
+mod ListFacts
+mod ReadFacts
+mod SingleFacts
