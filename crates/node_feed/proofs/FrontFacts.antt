@@ -10,8 +10,8 @@ use Rattle.fire_lines.specs.declared.faults.LineFault.{LineFault}
 use Rattle.fire_lines.specs.Text.{received}
 use Rattle.one_block.specs.declared.faults.StoreFault.{StoreFault}
 use Rattle.replay_text.specs.Lines.{bad_line}
-use Rattle.node_feed.specs.Feeding.{Brought, brought, after_lines, feed_slips, told_greeted, greets, clash_line, feed_kind, with_bad_line, further, fed_by}
-use Rattle.node_feed.specs.Outcomes.{Outside, IsSlipStopped, IsStoppedAmong, IsStopped, IsStoppedOf, when_greeted}
+use Rattle.node_feed.specs.Feeding.{Brought, brought, feed_slips, told_greeted, clash_line, feed_kind, with_bad_line, further, fed_by}
+use Rattle.node_feed.specs.Outcomes.{Outside, IsSlipStopped, IsStoppedAmong, IsStopped, when_greeted}
 use Rattle.node_feed.specs.Readers.{NodeState, IsStoppedFeed}
 use Rattle.node_feed.proofs.ListFacts.{feed_slips-append}
 

@@ -9,7 +9,7 @@ use Rattle.block_intake.specs.declared.answers.OfferFault.{OfferFault}
 use Rattle.block_reader.specs.Takes.{IsOffered}
 use Rattle.block_relay.specs.Chronicle.{Told, world_told, greeted}
 use Rattle.relay_model.specs.Chronicles.{Kind as KindEntry, added, first_of, run_of, limits_of, size_of, kind_of, closed_of}
-use Rattle.relay_model.specs.Offers.{judge, kind_after, offered, world_by}
+use Rattle.relay_model.specs.Offers.{judge, kind_after, world_by}
 use Rattle.relay_model.specs.Verdicts.{Verdict}
 use Rattle.relay_model.specs.Verdicts as verdict
 use Rattle.relay_model.specs.Worlds.{World}

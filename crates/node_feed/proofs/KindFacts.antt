@@ -1,23 +1,17 @@
 -- What nodes that say their kind leave, and the blocks after that.
-use Rattle.std.proofs.Common.{◌≡◌, ◌≤◌, ℕ, Bool, true, false, cond, inl, inr, List, [], ◌++◌, Option, None, Some, refl, sym, ◌∙◌, ap, subst}
-use Rattle.std.proofs.lemmas.Bool.{false≢true}
-use Rattle.std.proofs.lemmas.List.{append-nil}
-use Rattle.std.specs.Prelude.{Result, Ok, Err}
+use Rattle.std.proofs.Common.{◌≡◌, ℕ, true, false, List, ◌++◌, Option, None, Some, refl, sym, ◌∙◌, ap, subst}
 use Rattle.std.specs.Option.{option_map}
 use Rattle.block_record.specs.declared.blocks.Kind.{Kind}
-use Rattle.block_record.specs.declared.blocks.Slip.{Slip}
-use Rattle.block_reader.specs.Changes.{Shelved}
 use Rattle.block_reader.specs.Kept.{KeepsTold}
 use Rattle.block_relay.specs.Chronicle.{Told, world_told, greeted, may_greet}
 use Rattle.block_relay.specs.declared.answers.KindFault.TheVariants.{KindClash}
-use Rattle.one_block.specs.declared.faults.StoreFault.{StoreFault}
 use Rattle.outer_world.specs.Files.{Files}
 use Rattle.relay_model.specs.Chronicles.{Entry, history_of, waiting_of, stored_of}
 use Rattle.relay_model.specs.Worlds.{World}
 use Rattle.replay_text.specs.Lines.{kind_fault_line}
 use Rattle.store_files.specs.Kept.{IsWholeKept}
-use Rattle.node_feed.specs.Feeding.{Brought, brought, feed_slips, told_greeted, greets, kind_clash_line, clash_line, feed_kind}
-use Rattle.node_feed.specs.Outcomes.{Outside, IsBrought, SlipsAnswer, IsGreeted, IsUngreeted, IsClashAmong, IsStoppedAmong, KindAnswers, when_greeted}
+use Rattle.node_feed.specs.Feeding.{told_greeted, greets, kind_clash_line, clash_line}
+use Rattle.node_feed.specs.Outcomes.{IsGreeted}
 
 -- ---- what the files keep
 
@@ -86,40 +80,3 @@ greeted_badly name shown k was is before after held offered may h o entries conf
   told = λ i. record { entries = entries i; conflicts = conflicts i };
   text = text ∙ ap (λ l. before ++ kind_fault_line l (KindClash held offered)) named ∙ ap (λ l. before ++ l) (clash_by name (world_told was).kind k held offered h o);
 }
-
--- ---- a kind, and blocks after it
-
--- no kind is known, and no block
-pub unknown : (name : List ℕ) (slips : List Slip) (o : Outside) → KindAnswers name None slips o o (Ok false)
-unknown name slips o = inl (record { told = refl; text = sym (append-nil o.text); over_is = refl })
-
-with_both : Outside → Told → List ℕ → Outside
-with_both o t text = record o { told = t; text = text }
-
--- the kind may not feed the relay
-pub refused_kind : (name : List ℕ) (k : Kind) (slips : List Slip) (o : Outside) (is : Told) (after : List ℕ) → IsGreeted name k o.told is o.text after true
-    → KindAnswers name (Some k) slips o (record o { told = is; text = after }) (Ok true)
-refused_kind name k slips o is after g =
-    let b : feed_kind name o.told (Some k) slips ≡ brought o.told (clash_line name k o.told) true = ap (λ t. cond t (feed_slips name (told_greeted k o.told) slips) (brought o.told (clash_line name k o.told) true)) g.may in
-    inl (subst (λ (x : Brought). IsBrought x o (record o { told = is; text = after }) true) (sym b) (record { told = g.told; text = g.text; over_is = refl }))
-
--- there was no memory to tell it
-pub untold_kind : (name : List ℕ) (kind : Option Kind) (slips : List Slip) (o : Outside) (is : Told) (after : List ℕ) (f : StoreFault) → IsUngreeted o.told is o.text after f
-    → KindAnswers name kind slips o (record o { told = is; text = after }) (Err f)
-untold_kind name kind slips o is after f u = inl (record { mem = u.mem; same = λ i. record o { told = u.told i; text = u.text i } })
-
--- its blocks were brought, or not
-pub told_kind : (name : List ℕ) (k : Kind) (slips : List Slip) (o n : Outside) (is : Told) (after : List ℕ) (r : Result Bool StoreFault) → IsGreeted name k o.told is o.text after false
-    → SlipsAnswer name k slips (record o { told = is; text = after }) n r → KindAnswers name (Some k) slips o n r
-told_kind name k slips o n is after r g h = go r (subst (λ (m : Outside). SlipsAnswer name k slips m n r) same h)
-  where
-    same : record o { told = is; text = after } ≡ when_greeted k o
-    same = λ i. record o { told = g.told i; text = g.text i }
-
-    b : feed_kind name o.told (Some k) slips ≡ feed_slips name (told_greeted k o.told) slips
-    b = ap (λ t. cond t (feed_slips name (told_greeted k o.told) slips) (brought o.told (clash_line name k o.told) true)) g.may
-
-    go : (r : Result Bool StoreFault) → SlipsAnswer name k slips (when_greeted k o) n r → KindAnswers name (Some k) slips o n r
-    go (Ok over) (inl x) = inl (subst (λ (y : Brought). IsBrought y o n over) (sym b) (record { told = x.told; text = x.text; over_is = x.over_is }))
-    go (Ok over) (inr x) = inr (record { k = k; known = refl; may = g.may; among = x.0 }, x.1)
-    go (Err f) x = inr (record { k = k; known = refl; may = g.may; among = x })

@@ -8,9 +8,8 @@ use Rattle.block_record.specs.declared.blocks.Kind.{Kind}
 use Rattle.block_record.specs.declared.blocks.Slip.{Slip}
 use Rattle.block_record.specs.Slips.{slip}
 use Rattle.block_relay.specs.Chronicle.{Told}
-use Rattle.one_block.specs.declared.faults.StoreFault.{StoreFault}
 use Rattle.node_feed.specs.Feeding.{Brought, brought, told_after, is_refused, slip_lines, after_lines, feed_slips}
-use Rattle.node_feed.specs.Outcomes.{Outside, IsBrought, IsSlipFed, IsSlipClash, IsSlipStopped, SlipAnswers, IsFedUpTo, IsClashAmong, IsStoppedAmong, SlipsAnswer}
+use Rattle.node_feed.specs.Outcomes.{Outside, IsBrought, IsSlipFed, IsSlipClash, SlipAnswers, IsFedUpTo, IsClashAmong, SlipsAnswer}
 
 -- lines before lines before what is brought
 lines_twice : (one two : List ℕ) (b : Brought) → after_lines one (after_lines two b) ≡ after_lines (one ++ two) b
@@ -76,13 +75,6 @@ pub record IsUnderWay (name : List ℕ) (all left : List Slip) (old new : Outsid
   pub all_is : all ≡ done ++ left
   pub before : IsFedUpTo name done old new
 
-pub begun : (name : List ℕ) (all left : List Slip) (o : Outside) → all ≡ left → IsUnderWay name all left o o
-begun name all left o e = record {
-  done = [];
-  all_is = e;
-  before = record { fed = record { told = refl; text = sym (append-nil o.text); over_is = refl }; later = omega arith };
-}
-
 module _ (name : List ℕ) (all left : List Slip) (s : Slip) (o m n : Outside) (u : IsUnderWay name all (s ∷ left) o m) where
   -- one more was brought
   pub goes_on : IsSlipFed name s m n false → m.faults ≤ n.faults → IsUnderWay name all left o n
@@ -105,15 +97,6 @@ module _ (name : List ℕ) (all left : List Slip) (s : Slip) (o m n : Outside) (
   -- its file's name is another block's
   pub clashed : IsSlipClash name s m n → IsClashAmong name all o n
   clashed h = record { done = u.done; next = s; left = left; all = u.all_is; between = m; before = u.before; clash = h }
-
-  -- it stopped all
-  pub stopped : (k : Kind) (f : StoreFault) → IsSlipStopped name k s m n f → IsStoppedAmong name k all o n f
-  stopped k f h = record { done = u.done; next = s; left = left; all = u.all_is; between = m; before = u.before; stopped = h }
-
--- none is left
-pub finished : (name : List ℕ) (all left : List Slip) (o n : Outside) → left ≡ [] → IsUnderWay name all left o n → IsBrought (feed_slips name o.told all) o n false
-finished name all left o n e u =
-    subst (λ (l : List Slip). IsBrought (feed_slips name o.told l) o n false) (sym (u.all_is ∙ ap (λ l. u.done ++ l) e ∙ append-nil u.done)) u.before.fed
 
 -- ---- the loop's code
 

@@ -1,5 +1,5 @@
 -- What a piece of a run says, and what it leaves.
-use Rattle.std.proofs.Common.{◌≡◌, ◌≤◌, ℕ, Bool, true, false, cond, inl, inr, List, [], ◌++◌, length, drop, Option, None, Some, refl, sym, ◌∙◌, ap, subst, append_assoc}
+use Rattle.std.proofs.Common.{◌≡◌, ℕ, Bool, true, false, cond, inl, inr, List, [], ◌++◌, length, drop, Option, None, Some, refl, sym, ◌∙◌, ap, subst, append_assoc}
 use Rattle.std.proofs.Math.Seq.{drop-append_seam}
 use Rattle.std.proofs.lemmas.Bool.{false≢true}
 use Rattle.std.proofs.lemmas.List.{append-nil}
@@ -10,7 +10,6 @@ use Rattle.fire_lines.specs.declared.faults.LineFault.{LineFault}
 use Rattle.fire_lines.specs.Reader.{AreFurther}
 use Rattle.fire_lines.specs.Text.{received}
 use Rattle.one_block.specs.declared.faults.StoreFault.{StoreFault}
-use Rattle.one_block.specs.declared.faults.StoreFault.TheVariants as store
 use Rattle.replay_text.specs.Lines.{bad_line}
 use Rattle.node_feed.specs.Feeding.{Brought, brought, feed_kind, with_bad_line, further}
 use Rattle.node_feed.specs.Outcomes.{Outside, IsBrought, IsBadTold, KindAnswers, ReadAnswers}
@@ -35,10 +34,6 @@ module _ (name : List ℕ) (kind : Option Kind) (slips : List Slip) (bad : Optio
       inl (subst (λ (x : Brought). IsBrought x o m true) (sym (over_bad name bad b (sym h.over_is ∙ is))) (record { told = h.told; text = h.text; over_is = sym is ∙ h.over_is }))
   over_read over is (inr h) = inr (h.0, refl)
 
-  pub stopped_read : (f : StoreFault) → KindAnswers name kind slips o m (Err f) → ReadAnswers name kind slips bad o m (Err f)
-  stopped_read f (inl h) = inl h
-  stopped_read f (inr h) = inr (inl h)
-
   -- the bad line was told, where there is one
   pub told_read : (over ended : Bool) (after : List ℕ) → over ≡ false → KindAnswers name kind slips o m (Ok over) → IsBadTold name bad m.text after ended
       → ReadAnswers name kind slips bad o (record m { text = after }) (Ok ended)
@@ -61,11 +56,6 @@ module _ (name : List ℕ) (kind : Option Kind) (slips : List Slip) (bad : Optio
             over_is = t.over_is;
           })
   told_read over ended after is (inr h) t = absurd (false≢true (sym is ∙ h.1))
-
-  -- there was no memory for its line
-  pub short_read : (over : Bool) (after : List ℕ) → over ≡ false → KindAnswers name kind slips o m (Ok over) → after ≡ m.text → ReadAnswers name kind slips bad o (record m { text = after }) (Err store.Mem)
-  short_read over after is (inl h) e = inr (inr (record { mem = refl; fed = record { told = h.told; text = e ∙ h.text; over_is = sym is ∙ h.over_is } }))
-  short_read over after is (inr h) e = absurd (false≢true (sym is ∙ h.1))
 
 -- ---- a piece of a run
 

@@ -1,5 +1,5 @@
 -- What the answer to one block leaves.
-use Rattle.std.proofs.Common.{◌≡◌, ℕ, Bool, true, false, inl, inr, ◌⊎◌, List, [], ◌++◌, Option, refl, sym, ◌∙◌, ap, subst}
+use Rattle.std.proofs.Common.{◌≡◌, ℕ, false, inl, inr, ◌⊎◌, List, ◌++◌, Option, refl, sym, ◌∙◌, ap, subst}
 use Rattle.std.proofs.lemmas.Bool.{false≢true}
 use Rattle.std.proofs.lemmas.List.{append-nil}
 use Rattle.std.specs.Prelude.{Result, Ok, Err, is_err}
@@ -15,11 +15,11 @@ use Rattle.block_intake.specs.declared.answers.OfferFault.TheVariants as fault
 use Rattle.block_reader.specs.declared.faults.TakeFault.{TakeFault}
 use Rattle.block_reader.specs.declared.faults.TakeFault.TheVariants.{Offer, Store}
 use Rattle.block_reader.specs.Changes.{Shelved}
-use Rattle.block_reader.specs.Takes.{IfAnswered, IfStore, IsOffered, IsUnput, IsCutOff, IsRefused}
+use Rattle.block_reader.specs.Takes.{IfAnswered, IfStore, IsOffered, IsRefused}
 use Rattle.block_relay.specs.Chronicle.{Told, world_told}
 use Rattle.one_block.specs.declared.faults.StoreFault.{StoreFault}
 use Rattle.one_block.specs.declared.faults.StoreFault.TheVariants as store
-use Rattle.one_block.specs.Puts.{IsClash, IsHeldAs}
+use Rattle.one_block.specs.Puts.{IsClash}
 use Rattle.one_block.specs.StoreFaults.{fault_of}
 use Rattle.outer_world.specs.Files.{Files}
 use Rattle.outer_world.specs.declared.shelves.ShelfFail.{ShelfFail}

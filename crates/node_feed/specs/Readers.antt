@@ -7,7 +7,7 @@ use Rattle.fire_lines.specs.Reader.{ReaderState, AreFurther, state_after}
 use Rattle.fire_lines.specs.Text.{received}
 use Rattle.replay_text.specs.Lines.{over_line}
 use Rattle.node_feed.specs.Feeding.{fed_by, further}
-use Rattle.node_feed.specs.Outcomes.{Outside, IsBrought, IsClashOf, IsShort, IsStopped, ReadAnswers}
+use Rattle.node_feed.specs.Outcomes.{Outside, IsBrought, IsClashOf, IsShort, IsStopped}
 
 -- a reader: its name, how far its node's lines were read, and whether it is over
 pub record NodeState : Type 0 where
