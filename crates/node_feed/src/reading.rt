@@ -1,6 +1,6 @@
 //! What a piece of a node's text says.
 
-ghost use Rattle.std.specs.Prelude.{◌≡◌, ◌≤◌, ◌++◌, ℕ, List, IfOk, map};
+ghost use Rattle.std.specs.Prelude.{◌≡◌, ◌≤◌, ℕ, List, IfOk, map};
 ghost use Rattle.std.specs.Option.{option_copied};
 ghost use Rattle.block_record.specs.Slips.{slip};
 ghost use Rattle.block_relay.specs.Chronicle.{world_told};
