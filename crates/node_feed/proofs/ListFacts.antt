@@ -1,7 +1,8 @@
 -- What blocks bring one after another.
-use Rattle.std.proofs.Common.{◌≡◌, ◌≤◌, ℕ, Bool, true, false, cond, inl, inr, List, [], ◌∷◌, ◌++◌, refl, sym, ◌∙◌, ap, subst, arith, map, append_assoc}
+use Rattle.std.proofs.Common.{◌≡◌, ◌≤◌, ◌-◌, ℕ, Bool, true, false, cond, inl, inr, List, [], ◌∷◌, ◌++◌, refl, sym, ◌∙◌, ap, subst, arith, length, map, append_assoc}
 use Rattle.std.proofs.lemmas.Bool.{false≢true}
-use Rattle.std.proofs.lemmas.List.{append-nil}
+use Rattle.std.proofs.lemmas.List.{append-nil, take_all}
+use Rattle.std.specs.List.{slice_range}
 use Rattle.std.specs.Prelude.{Ok}
 use Rattle.block_record.specs.declared.blocks.Block.{Block}
 use Rattle.block_record.specs.declared.blocks.Kind.{Kind}
@@ -75,6 +76,14 @@ pub record IsUnderWay (name : List ℕ) (all left : List Slip) (old new : Outsid
   pub all_is : all ≡ done ++ left
   pub before : IsFedUpTo name done old new
 
+-- they are all left at first
+pub begun : (name : List ℕ) (all left : List Slip) (o : Outside) → all ≡ left → IsUnderWay name all left o o
+begun name all left o e = record {
+  done = [];
+  all_is = e;
+  before = record { fed = record { told = refl; text = sym (append-nil o.text); over_is = refl }; later = omega arith };
+}
+
 module _ (name : List ℕ) (all left : List Slip) (s : Slip) (o m n : Outside) (u : IsUnderWay name all (s ∷ left) o m) where
   -- one more was brought
   pub goes_on : IsSlipFed name s m n false → m.faults ≤ n.faults → IsUnderWay name all left o n
@@ -114,3 +123,7 @@ module _ (name : List ℕ) (all left : List Slip) (s : Slip) (o m n : Outside) (
 -- the next block of those that are left
 pub next_left : (name : List ℕ) (all : List Slip) (o m : Outside) (blocks left : List Block) (b : Block) → blocks ≡ b ∷ left → IsUnderWay name all (map slip blocks) o m → IsUnderWay name all (slip b ∷ map slip left) o m
 next_left name all o m blocks left b e u = subst (λ (l : List Block). IsUnderWay name all (map slip l) o m) e u
+
+-- all of a list is the list
+pub whole : (bs : List Block) (n : ℕ) → length bs ≤ n → slice_range bs 0 n ≡ bs
+whole bs n h = take_all (n - 0) bs (omega (arith, h))

@@ -4,7 +4,9 @@ ghost use Rattle.std.specs.Prelude.{◌≤◌, Option, map};
 ghost use Rattle.std.specs.Option.{option_copied};
 ghost use Rattle.block_record.specs.Slips.{slip};
 ghost use Rattle.block_relay.specs.Chronicle.{world_told};
+ghost use Rattle.block_reader.specs.Changes.{shelved};
 ghost use Rattle.block_reader.specs.Kept.{AreOwn, KeepsTold};
+ghost use Rattle.own_laws.specs.Away.{TakesAway};
 ghost use Rattle.outer_world.specs.Files.{Files};
 ghost use Rattle.node_feed.specs.Growing.{IsGrown};
 ghost use Rattle.node_feed.specs.Outcomes.{GreetAnswers, KindAnswers, outside};
@@ -37,6 +39,8 @@ pub(crate) fn feed_run<S: Shelf>(
         result }
     ensures grows { IsGrown relay.old relay.new }
     ensures own { AreOwn (S.files shelf.new) own.new }
+    ensures away { TakesAway name.now (shelved (S.files shelf.old) own.old)
+        (shelved (S.files shelf.new) own.new) }
     ensures kept { KeepsTold (S.files shelf.old) (world_told relay.old)
         → KeepsTold (S.files shelf.new) (world_told relay.new) }
     ensures later { S.shelf_faults shelf.old ≤ S.shelf_faults shelf.new }

@@ -4,7 +4,9 @@ ghost use Rattle.std.specs.Prelude.{◌≡◌, ◌≤◌, [], ◌++◌, ℕ, Lis
 ghost use Rattle.std.specs.Result.{IsOk};
 ghost use Rattle.block_record.specs.Words.{GrowsByFront};
 ghost use Rattle.block_relay.specs.Chronicle.{world_told};
+ghost use Rattle.block_reader.specs.Changes.{shelved};
 ghost use Rattle.block_reader.specs.Kept.{AreOwn, KeepsTold};
+ghost use Rattle.own_laws.specs.Away.{TakesAway};
 ghost use Rattle.fire_lines.specs.Reader.{state_after};
 ghost use Rattle.node_feed.specs.Feeding.{fed_by};
 ghost use Rattle.node_feed.specs.Growing.{IsGrown};
@@ -114,9 +116,11 @@ impl NodeReader {
         ensures limit { self.new.lines.max ≡ self.old.lines.max }
         ensures grows { IsGrown relay.old relay.new }
 
-        // Each own file is there with its block, and what told files keep of the relay's world they go on
-        // to keep.
+        // Each own file is there with its block, no file changed but those of this reader, and what told
+        // files keep of the relay's world they go on to keep.
         ensures own { AreOwn (S.files shelf.new) own.new }
+        ensures away { TakesAway self.old.name (shelved (S.files shelf.old) own.old)
+            (shelved (S.files shelf.new) own.new) }
         ensures kept { KeepsTold (S.files shelf.old) (world_told relay.old)
             → KeepsTold (S.files shelf.new) (world_told relay.new) }
         ensures later { S.shelf_faults shelf.old ≤ S.shelf_faults shelf.new }
@@ -150,6 +154,8 @@ impl NodeReader {
         ensures goes_on { self.new.over ≡ self.old.over }
         ensures grows { IsGrown relay.old relay.new }
         ensures own { AreOwn (S.files shelf.new) own.new }
+        ensures away { TakesAway self.old.name (shelved (S.files shelf.old) own.old)
+            (shelved (S.files shelf.new) own.new) }
         ensures kept { KeepsTold (S.files shelf.old) (world_told relay.old)
             → KeepsTold (S.files shelf.new) (world_told relay.new) }
         ensures later { S.shelf_faults shelf.old ≤ S.shelf_faults shelf.new }

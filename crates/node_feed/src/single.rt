@@ -3,7 +3,9 @@
 ghost use Rattle.std.specs.Prelude.{◌≡◌, ◌≤◌, IfOk};
 ghost use Rattle.block_record.specs.Slips.{slip};
 ghost use Rattle.block_relay.specs.Chronicle.{world_told};
+ghost use Rattle.block_reader.specs.Changes.{shelved};
 ghost use Rattle.block_reader.specs.Kept.{AreOwn, KeepsTold};
+ghost use Rattle.own_laws.specs.Away.{TakesAway};
 ghost use Rattle.node_feed.specs.Feeding.{ends_reader};
 ghost use Rattle.node_feed.specs.Growing.{IsGrown};
 ghost use Rattle.node_feed.specs.Outcomes.{SlipAnswers, outside};
@@ -35,6 +37,8 @@ pub(crate) fn feed_block<S: Shelf>(
         result }
     ensures grows { IsGrown relay.old relay.new }
     ensures own { AreOwn (S.files shelf.new) own.new }
+    ensures away { TakesAway name.now (shelved (S.files shelf.old) own.old)
+        (shelved (S.files shelf.new) own.new) }
     ensures kept { KeepsTold (S.files shelf.old) (world_told relay.old)
         → KeepsTold (S.files shelf.new) (world_told relay.new) }
     ensures later { S.shelf_faults shelf.old ≤ S.shelf_faults shelf.new }

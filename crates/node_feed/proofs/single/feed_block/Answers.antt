@@ -3,6 +3,9 @@ use Rattle.std.proofs.lemmas.Result.{err_from_is_err_and}
 use Rattle.replay_text.specs.Lines.{taken_lines}
 use Rattle.node_feed.specs.Outcomes.{outside}
 use Rattle.node_feed.proofs.SingleFacts.{answered, untold, taken_grown}
+use Rattle.block_reader.specs.Changes.{shelved}
+use Rattle.own_laws.proofs.public.AwayFacts.{nothing_stays_away}
+use Rattle.own_laws.proofs.public.TakeFacts.{take_stays_away}
 use Rattle.node_feed.proofs.single.feed_block.Goals as goal
 
 pub returns-in_err-push_taken-clause-answer : goal.returns-in_err-push_taken-clause-answer
@@ -32,3 +35,18 @@ returns-clause-answer g c =
 pub returns-clause-grows : goal.returns-clause-grows
 returns-clause-grows g c =
     taken_grown c.args.kind.now c.args.block c.args.name.now c.args.relay.now c.take_owned-answer.new.relay _ _ _ _ c.take_owned-answer.result c.take_owned-answer.ensures.said c.take_owned-answer.ensures.store
+
+pub returns-in_err-push_taken-clause-away : goal.returns-in_err-push_taken-clause-away
+returns-in_err-push_taken-clause-away g c =
+    take_stays_away c.args.relay.now c.take_owned-answer.new.relay c.args.kind.now c.args.block c.args.name.now
+    (shelved (g.S.Shelf.files c.args.shelf.now) c.args.own.now) (shelved (g.S.Shelf.files c.take_owned-answer.new.shelf) c.take_owned-answer.new.own)
+    (g.S.Shelf.shelf_faults c.args.shelf.now) (g.S.Shelf.shelf_faults c.take_owned-answer.new.shelf) c.take_owned-answer.result c.take_owned-answer.ensures.placed c.take_owned-answer.ensures.store
+
+pub returns-clause-away : goal.returns-clause-away
+returns-clause-away g c =
+    take_stays_away c.args.relay.now c.take_owned-answer.new.relay c.args.kind.now c.args.block c.args.name.now
+    (shelved (g.S.Shelf.files c.args.shelf.now) c.args.own.now) (shelved (g.S.Shelf.files c.take_owned-answer.new.shelf) c.take_owned-answer.new.own)
+    (g.S.Shelf.shelf_faults c.args.shelf.now) (g.S.Shelf.shelf_faults c.take_owned-answer.new.shelf) c.take_owned-answer.result c.take_owned-answer.ensures.placed c.take_owned-answer.ensures.store
+
+pub returns-in_err-id-clause-away : goal.returns-in_err-id-clause-away
+returns-in_err-id-clause-away g c = nothing_stays_away c.args.name.now (shelved (g.S.Shelf.files c.args.shelf.now) c.args.own.now)

@@ -6,6 +6,8 @@ use Rattle.fire_lines.specs.Reader.{state_after}
 use Rattle.node_feed.specs.Outcomes.{outside}
 use Rattle.node_feed.specs.Readers.{NodeState, PieceAnswers, node_state}
 use Rattle.node_feed.proofs.ReadFacts.{piece_answered}
+use Rattle.block_reader.specs.Changes.{shelved}
+use Rattle.own_laws.proofs.public.AwayFacts.{nothing_stays_away}
 use Rattle.node_feed.proofs.reader.NodeReader.feed_piece.Goals as goal
 
 pub returns-in_err-is_over-clause-answer : goal.returns-in_err-is_over-clause-answer
@@ -31,3 +33,6 @@ returns-clause-answer g c =
     (λ text h.
     piece_answered text c.args.piece.now was now (option_copied c.kind.result) c.in_ok-bad.bad (map slip c.clear.new.self.items) (map slip c.read_piece.new.blocks.items) old new
     (c.in_ok-bad.ensures.read text h) (ap (map slip) c.clear.ensures.items) c.kind.ensures (Ok c.in_ok-is_over.is_over) c.in_ok-is_over.ensures.answer)
+
+pub returns-in_err-bad-clause-away : goal.returns-in_err-bad-clause-away
+returns-in_err-bad-clause-away g c = nothing_stays_away c.args.self.now.name (shelved (g.S.Shelf.files c.args.shelf.now) c.args.own.now)
