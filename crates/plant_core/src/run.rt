@@ -1,0 +1,81 @@
+//! A script, run over a shelf.
+
+ghost use Rattle.std.specs.Prelude.{◌≡◌, ◌⊎◌, IfErr, IfOk};
+ghost use Rattle.block_relay.specs.Chronicle.{world_told};
+ghost use Rattle.script_text.specs.Scripts.{script_seen};
+ghost use Rattle.plant_core.specs.Moments.{AllOwn, moment};
+ghost use Rattle.plant_core.specs.Runs.{IsReplayed, IsStopped, RunsTo, StopsWithin, told_new};
+
+use crate::plant::Plant;
+use block_relay::Relay;
+use one_block::StoreFault;
+use outer_world::Shelf;
+use replay_text::{push_load_fault, push_loaded};
+use script_text::{Event, Script};
+use shelf_check::LoadFault;
+use shelf_load::load;
+use std::alloc::{AllocError, Global};
+
+/// Loads the shelf into a relay, and then has each event of the script happen to it, in order: the relay
+/// as it is then. What was written is appended, at an error too. Where the shelf has two kinds, or more
+/// blocks than a history may, that is told, no event happens, and the relay is empty.
+pub fn replay<S: Shelf>(
+    alloc: Global,
+    script: &Script,
+    shelf: &mut S,
+    out: &mut Vec<u8>,
+) -> Result<Relay, StoreFault>
+    ensures ok { IfOk result (IsReplayed (script_seen script.now)
+        (S.files shelf.old) (S.files shelf.new) (S.shelf_faults shelf.old) (S.shelf_faults shelf.new)
+        out.old.items out.new.items) }
+    ensures err { IfErr result (IsStopped (script_seen script.now)
+        (S.files shelf.old) (S.files shelf.new) (S.shelf_faults shelf.old) (S.shelf_faults shelf.new)
+        out.old.items out.new.items) }
+    ensures later { S.shelf_faults shelf.old ≤ S.shelf_faults shelf.new }
+{
+    let mut relay = new_relay(alloc, script)?;
+    match load(alloc, &mut relay, shelf) {
+        Ok(loaded) => {
+            push_loaded(loaded, out)?;
+            let plant = Plant::new(alloc, relay, script.run, script.limits);
+            run_events(alloc, script.events.as_slice(), plant, shelf, out)
+        }
+        Err(LoadFault::Store(fault)) => Err(fault),
+        Err(fault) => {
+            push_load_fault(&fault, out)?;
+            let relay = new_relay(alloc, script)?;
+            Ok(relay)
+        }
+    }
+}
+
+/// A new relay of a script.
+fn new_relay(alloc: Global, script: &Script) -> Result<Relay, AllocError>
+    ensures { IfOk result (λ relay. relay ≡ told_new (script_seen script.now)) }
+{
+    let relay = Relay::new(alloc, script.first, script.run, script.limits)?;
+    Ok(relay)
+}
+
+/// Has events happen to a plant, in order: its relay as it is then.
+fn run_events<S: Shelf>(
+    alloc: Global,
+    events: &[Event],
+    mut plant: Plant,
+    shelf: &mut S,
+    out: &mut Vec<u8>,
+) -> Result<Relay, StoreFault>
+    requires own { AllOwn (S.files shelf.old) plant.readers }
+    ensures ok { IfOk result (RunsTo events.now
+        (moment plant (S.files shelf.old) (S.shelf_faults shelf.old) out.old.items)
+        (S.files shelf.new) (S.shelf_faults shelf.new) out.new.items) }
+    ensures err { IfErr result (StopsWithin events.now
+        (moment plant (S.files shelf.old) (S.shelf_faults shelf.old) out.old.items)
+        (S.files shelf.new) (S.shelf_faults shelf.new) out.new.items) }
+    ensures later { S.shelf_faults shelf.old ≤ S.shelf_faults shelf.new }
+{
+    for event in events {
+        plant.run_event(alloc, event, shelf, out)?;
+    }
+    Ok(plant.into_relay())
+}
