@@ -16,7 +16,7 @@ use Rattle.plant_core.specs.Moments.{AllOwn, AreApart, IsReader, StandsAt, is_na
 
 -- ---- names
 
-same_name : (name : List ℕ) → bytes_eq name name ≡ true
+pub same_name : (name : List ℕ) → bytes_eq name name ≡ true
 same_name name = (bytes_eq-Decides name name).1 refl
 
 name_is : (name : List ℕ) (r : Reader) → is_named name r ≡ true → r.node.name ≡ name
@@ -64,7 +64,7 @@ set_same [] place one is = refl
 set_same (r ∷ readers) zero one is = ap (λ (x : Reader). x ∷ readers) is
 set_same (r ∷ readers) (suc place) one is = ap (λ (l : List Reader). r ∷ l) (set_same readers place one is)
 
-get_same : (readers : List Reader) (place : ℕ) (a b : Reader) → place < length readers → get_or readers place a ≡ get_or readers place b
+pub get_same : (readers : List Reader) (place : ℕ) (a b : Reader) → place < length readers → get_or readers place a ≡ get_or readers place b
 get_same [] place a b within = absurd (omega arith)
 get_same (r ∷ readers) zero a b within = refl
 get_same (r ∷ readers) (suc place) a b within = get_same readers place a b (omega arith)
