@@ -1,1 +1,2 @@
 mod ReaderFacts
+mod FeedFacts

@@ -1,6 +1,5 @@
 -- What an event makes of a plant, and what it writes.
-use Rattle.std.specs.Prelude.{ℕ, ◌≡◌, ◌⊎◌, ◌≤◌, true, false, List, [], ◌∷◌, ◌++◌, Option, None, Some, IfSome}
-use mathlib.Core.List.{IsPrefix}
+use Rattle.std.specs.Prelude.{ℕ, ◌≡◌, ◌⊎◌, ◌≤◌, true, false, List, [], ◌∷◌, ◌++◌, Option, None, Some}
 use Rattle.one_block.specs.declared.faults.StoreFault.{StoreFault}
 use Rattle.one_block.specs.declared.faults.StoreFault.TheVariants as store
 use Rattle.fire_lines.specs.Reader.{state_after}
@@ -8,7 +7,7 @@ use Rattle.block_relay.specs.Chronicle.{Told, world_told, closed_entries}
 use Rattle.bundle_merger.specs.declared.merging.Merged.{Merged}
 use Rattle.bundle_merger.specs.Merging.{AddsStored, IsHalted, IsMerged}
 use Rattle.node_feed.specs.Outcomes.{Outside, outside}
-use Rattle.node_feed.specs.Readers.{NodeState, IsFed, IsStoppedFeed, OverAnswers, ended, end_lines}
+use Rattle.node_feed.specs.Readers.{IsFed, IsStoppedFeed, ended, end_lines}
 use Rattle.replay_text.specs.Lines.{merged_line, over_line}
 use Rattle.script_clients.specs.Clients.{without_client}
 use Rattle.script_clients.specs.Looking.{IsLooked, IsStopped}
@@ -16,7 +15,7 @@ use Rattle.script_clients.specs.Opening.{IsOpened}
 use Rattle.script_text.specs.declared.script.Event.{Event}
 use Rattle.script_text.specs.declared.script.Event.TheVariants as event
 use Rattle.plant_core.specs.declared.readers.Reader.{Reader}
-use Rattle.plant_core.specs.Moments.{Moment, PlantState, reader_of, with_reader}
+use Rattle.plant_core.specs.Moments.{Moment, reader_of, with_reader}
 
 -- ---- readers
 

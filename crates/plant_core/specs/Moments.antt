@@ -4,7 +4,7 @@ use Rattle.std.specs.List.{AllByRecursion, position}
 use Rattle.std.specs.Str.{bytes_eq}
 use Rattle.block_record.specs.Texts.{IsReaderName}
 use Rattle.outer_world.specs.Files.{Files}
-use Rattle.fire_lines.specs.Reader.{ReaderState, state_after}
+use Rattle.fire_lines.specs.Reader.{state_after}
 use Rattle.block_reader.specs.Kept.{AreOwn}
 use Rattle.block_relay.specs.Chronicle.{Told, world_told}
 use Rattle.block_relay.specs.declared.limits.Limits.{Limits}

@@ -3,7 +3,7 @@
 ghost use Rattle.std.specs.Prelude.{◌≡◌, ◌≤◌, ◌++◌, ◌∷◌, [], List, Option, ℕ, IfErr, None, OnErr, OnOk, Some};
 ghost use Rattle.block_relay.specs.Chronicle.{world_told};
 ghost use Rattle.plant_core.specs.Events.{HasFed, HasLooked, HasLookedFront, HasMerged, HasMergedFront, Happens, IsCutOff, IsFedCutOff, after_end, told_closed};
-ghost use Rattle.plant_core.specs.Moments.{AllOwn, moment, plant_of, reader_of};
+ghost use Rattle.plant_core.specs.Moments.{AllOwn, IsSteady, moment, plant_of, reader_of};
 ghost use Rattle.outer_world.specs.Files.{Files};
 ghost use Rattle.script_clients.specs.Opening.{IsOpened};
 
@@ -15,7 +15,7 @@ use one_block::StoreFault;
 use outer_world::Shelf;
 use own_laws::merges_stay;
 use replay_text::push_merged;
-use script_clients::Clients;
+use script_clients::{Clients, served_stay};
 use script_text::Event;
 use std::alloc::{AllocError, Global};
 use std::marker::Model;
@@ -36,7 +36,7 @@ pub struct Plant {
 impl Model for Plant {
     ghost use Rattle.std.specs.Prelude.{◌≡◌};
     ghost use Rattle.block_relay.specs.Chronicle.{world_told};
-    ghost use Rattle.plant_core.specs.Moments.{IsSteady, PlantState};
+    ghost use Rattle.plant_core.specs.Moments.{PlantState};
 
     ghost Value = { PlantState };
 
@@ -47,21 +47,14 @@ impl Model for Plant {
       readers = p.readers.items;
       clients = p.clients
     } };
-
-    ghost invariant = { λ p. IsSteady (record {
-      told = p.relay;
-      run = p.run;
-      limits = p.limits;
-      readers = p.readers.items;
-      clients = p.clients
-    }) };
 }
 
 impl Plant {
     /// A relay of this run and of these limits, without readers and clients.
     pub fn new(alloc: Global, relay: Relay, run: u64, limits: Limits) -> Plant
         requires { (world_told relay).run ≡ run }
-        ensures { result ≡ plant_of relay run limits }
+        ensures steady { IsSteady result }
+        ensures plant { result ≡ plant_of relay run limits }
     {
         Plant {
             relay,
@@ -88,6 +81,7 @@ impl Plant {
         shelf: &mut S,
         out: &mut Vec<u8>,
     ) -> Result<(), StoreFault>
+        requires steady { IsSteady self.old }
         requires own { AllOwn (S.files shelf.old) self.old.readers }
         ensures ok { OnOk result (Happens event.now
             (moment self.old (S.files shelf.old) (S.shelf_faults shelf.old) out.old.items)
@@ -95,6 +89,7 @@ impl Plant {
         ensures err { IfErr result (IsCutOff event.now
             (moment self.old (S.files shelf.old) (S.shelf_faults shelf.old) out.old.items)
             (moment self.new (S.files shelf.new) (S.shelf_faults shelf.new) out.new.items)) }
+        ensures steady { OnOk result (IsSteady self.new) }
         ensures own { OnOk result (AllOwn (S.files shelf.new) self.new.readers) }
         ensures later { S.shelf_faults shelf.old ≤ S.shelf_faults shelf.new }
     {
@@ -130,6 +125,7 @@ impl Plant {
         shelf: &mut S,
         out: &mut Vec<u8>,
     ) -> Result<(), StoreFault>
+        requires steady { IsSteady self.old }
         requires own { AllOwn (S.files shelf.old) self.old.readers }
         ensures ok { OnOk result (HasFed reader.now (text.now ++ 10 ∷ [])
             (moment self.old (S.files shelf.old) (S.shelf_faults shelf.old) out.old.items)
@@ -137,6 +133,7 @@ impl Plant {
         ensures err { IfErr result (IsFedCutOff reader.now (text.now ++ 10 ∷ [])
             (moment self.old (S.files shelf.old) (S.shelf_faults shelf.old) out.old.items)
             (moment self.new (S.files shelf.new) (S.shelf_faults shelf.new) out.new.items)) }
+        ensures steady { OnOk result (IsSteady self.new) }
         ensures own { OnOk result (AllOwn (S.files shelf.new) self.new.readers) }
         ensures later { S.shelf_faults shelf.old ≤ S.shelf_faults shelf.new }
     {
@@ -156,6 +153,7 @@ impl Plant {
         shelf: &mut S,
         out: &mut Vec<u8>,
     ) -> Result<(), StoreFault>
+        requires steady { IsSteady self.old }
         requires own { AllOwn (S.files shelf.old) self.old.readers }
         ensures ok { OnOk result (HasFed reader.now piece.now
             (moment self.old (S.files shelf.old) (S.shelf_faults shelf.old) out.old.items)
@@ -163,9 +161,11 @@ impl Plant {
         ensures err { IfErr result (IsFedCutOff reader.now piece.now
             (moment self.old (S.files shelf.old) (S.shelf_faults shelf.old) out.old.items)
             (moment self.new (S.files shelf.new) (S.shelf_faults shelf.new) out.new.items)) }
+        ensures steady { OnOk result (IsSteady self.new) }
         ensures own { OnOk result (AllOwn (S.files shelf.new) self.new.readers) }
         ensures later { S.shelf_faults shelf.old ≤ S.shelf_faults shelf.new }
     {
+        served_stay();
         let place = enrol(alloc, self.limits.line as usize, reader, &mut self.readers)?;
         let reader = &mut self.readers[place];
         reader.node.feed(alloc, &mut self.relay, shelf, &mut reader.own, piece, out)
@@ -178,11 +178,13 @@ impl Plant {
         reader: &ReaderName,
         out: &mut Vec<u8>,
     ) -> Result<(), StoreFault>
+        requires steady { IsSteady self.old }
         ensures ok { OnOk result ((files : Option Files) (faults : ℕ)
             → moment self.new files faults out.new.items
             ≡ after_end (reader_of self.old.limits.line reader.now self.old.readers)
             (moment self.old files faults out.old.items)) }
         ensures err { OnErr result (out.new.items ≡ out.old.items) }
+        ensures steady { IsSteady self.new }
         ensures mem { IfErr result (λ fault. fault ≡ StoreFault.Mem) }
     {
         let place = enrol(alloc, self.limits.line as usize, reader, &mut self.readers)?;
@@ -198,10 +200,12 @@ impl Plant {
         request: &[u8],
         out: &mut Vec<u8>,
     ) -> Result<(), StoreFault>
+        requires steady { IsSteady self.old }
         ensures ok { OnOk result (IsOpened self.old.limits.request self.old.run client.now request.now
             self.old.clients self.new.clients out.old.items out.new.items) }
         ensures plant { self.new ≡ record self.old { clients = self.new.clients } }
         ensures err { OnErr result (out.new.items ≡ out.old.items) }
+        ensures steady { IsSteady self.new }
         ensures mem { IfErr result (λ fault. fault ≡ StoreFault.Mem) }
     {
         self.clients
@@ -218,6 +222,7 @@ impl Plant {
         shelf: &mut S,
         out: &mut Vec<u8>,
     ) -> Result<(), StoreFault>
+        requires steady { IsSteady self.old }
         requires own { AllOwn (S.files shelf.old) self.old.readers }
         ensures ok { OnOk result (HasLooked most client.now
             (moment self.old (S.files shelf.old) (S.shelf_faults shelf.old) out.old.items)
@@ -225,6 +230,7 @@ impl Plant {
         ensures err { IfErr result (HasLookedFront most client.now
             (moment self.old (S.files shelf.old) (S.shelf_faults shelf.old) out.old.items)
             (moment self.new (S.files shelf.new) (S.shelf_faults shelf.new) out.new.items)) }
+        ensures steady { IsSteady self.new }
         ensures own { OnOk result (AllOwn (S.files shelf.new) self.new.readers) }
         ensures later { S.shelf_faults shelf.old ≤ S.shelf_faults shelf.new }
     {
@@ -239,6 +245,7 @@ impl Plant {
         shelf: &mut S,
         out: &mut Vec<u8>,
     ) -> Result<(), StoreFault>
+        requires steady { IsSteady self.old }
         requires own { AllOwn (S.files shelf.old) self.old.readers }
         ensures ok { OnOk result (HasMerged
             (moment self.old (S.files shelf.old) (S.shelf_faults shelf.old) out.old.items)
@@ -246,6 +253,7 @@ impl Plant {
         ensures err { IfErr result (HasMergedFront
             (moment self.old (S.files shelf.old) (S.shelf_faults shelf.old) out.old.items)
             (moment self.new (S.files shelf.new) (S.shelf_faults shelf.new) out.new.items)) }
+        ensures steady { IsSteady self.new }
         ensures own { OnOk result (AllOwn (S.files shelf.new) self.new.readers) }
         ensures later { S.shelf_faults shelf.old ≤ S.shelf_faults shelf.new }
     {
@@ -257,7 +265,9 @@ impl Plant {
 
     /// The relay is closed.
     fn close(&mut self)
-        ensures { self.new ≡ record self.old { told = told_closed self.old.told } }
+        requires steady { IsSteady self.old }
+        ensures steady { IsSteady self.new }
+        ensures closed { self.new ≡ record self.old { told = told_closed self.old.told } }
     {
         self.relay.close();
     }

@@ -1,9 +1,9 @@
 //! A script, run over a shelf.
 
-ghost use Rattle.std.specs.Prelude.{◌≡◌, ◌⊎◌, IfErr, IfOk};
+ghost use Rattle.std.specs.Prelude.{◌≡◌, ◌≤◌, ◌⊎◌, IfErr, IfOk};
 ghost use Rattle.block_relay.specs.Chronicle.{world_told};
 ghost use Rattle.script_text.specs.Scripts.{script_seen};
-ghost use Rattle.plant_core.specs.Moments.{AllOwn, moment};
+ghost use Rattle.plant_core.specs.Moments.{AllOwn, IsSteady, moment};
 ghost use Rattle.plant_core.specs.Runs.{IsReplayed, IsStopped, RunsTo, StopsWithin, told_new};
 
 use crate::plant::Plant;
@@ -65,6 +65,7 @@ fn run_events<S: Shelf>(
     shelf: &mut S,
     out: &mut Vec<u8>,
 ) -> Result<Relay, StoreFault>
+    requires steady { IsSteady plant }
     requires own { AllOwn (S.files shelf.old) plant.readers }
     ensures ok { IfOk result (RunsTo events.now
         (moment plant (S.files shelf.old) (S.shelf_faults shelf.old) out.old.items)
