@@ -10,7 +10,7 @@ use Rattle.block_relay.specs.Chronicle.{Told, world_told}
 use Rattle.fire_lines.specs.Reader.{state_after}
 use Rattle.node_feed.specs.Growing.{IsGrown}
 use Rattle.node_feed.specs.Outcomes.{outside}
-use Rattle.node_feed.specs.Readers.{IsFed, IsStoppedFeed, NodeState, OverAnswers}
+use Rattle.node_feed.specs.Readers.{IsFed, IsStoppedFeed, NodeState, OverAnswers, end_lines, ended, state_ended}
 use Rattle.one_block.specs.declared.faults.StoreFault.{StoreFault}
 use Rattle.outer_world.specs.Files.{Files}
 use Rattle.own_laws.specs.Away.{AreBy, TakesAway}
@@ -19,7 +19,7 @@ use Rattle.relay_session.specs.Growing.{HasGrown}
 use Rattle.relay_session.proofs.public.Growing.{grown_by}
 use Rattle.script_clients.specs.Laws.{ServedStay}
 use Rattle.plant_core.specs.declared.readers.Reader.{Reader}
-use Rattle.plant_core.specs.Events.{HasFed, IsFedCutOff, TookPiece, WasOver, outside_of}
+use Rattle.plant_core.specs.Events.{HasFed, IsFedCutOff, TookPiece, WasOver, after_end, outside_of}
 use Rattle.plant_core.specs.Moments.{AllOwn, AreApart, IsReader, IsSteady, Moment, PlantState, StandsAt, is_named, moment, reader_of, with_reader}
 use Rattle.plant_core.proofs.ReaderFacts.{apart_set, at_place, each_at, each_set, get_same, named_found, own_set, same_name}
 
@@ -68,9 +68,8 @@ on_ok (Err e) holds = tt
 -- ---- a piece
 
 -- a reader was enrolled
-pub record IsEnrolled (p : PlantState) (name : List ℕ) (files : Option Files) (readers : List Reader) (place : ℕ) (one : Reader) : Type 0 where
+pub record IsEnrolled (p : PlantState) (name : List ℕ) (readers : List Reader) (place : ℕ) (one : Reader) : Type 0 where
   pub steady : IsSteady p
-  pub all_own : AllOwn files p.readers
   pub there : StandsAt readers place (reader_of p.limits.line name p.readers)
   pub readers_are : readers ≡ with_reader (reader_of p.limits.line name p.readers) p.readers
   pub each : AllByRecursion IsReader readers
@@ -96,27 +95,27 @@ abbrev pub plant_fed : PlantState → Told → List Reader → PlantState
 plant_fed p told readers = record p { told = told; readers = readers }
 
 -- the reader that was enrolled is the one of the name
-the_one : (p : PlantState) (name : List ℕ) (files : Option Files) (readers : List Reader) (place : ℕ) (one : Reader) → IsEnrolled p name files readers place one
+the_one : (p : PlantState) (name : List ℕ) (readers : List Reader) (place : ℕ) (one : Reader) → IsEnrolled p name readers place one
     → reader_of p.limits.line name p.readers ≡ one
-the_one p name files readers place one e =
+the_one p name readers place one e =
     let r : Reader = reader_of p.limits.line name p.readers in
     e.there.is ∙ get_same readers place r one e.there.within ∙ sym e.one_is
 
-readers_fed : (p : PlantState) (name : List ℕ) (files : Option Files) (readers : List Reader) (place : ℕ) (one now : Reader) → IsEnrolled p name files readers place one
+readers_fed : (p : PlantState) (name : List ℕ) (readers : List Reader) (place : ℕ) (one now : Reader) → IsEnrolled p name readers place one
     → now.node.name ≡ one.node.name → set readers place now ≡ with_reader now p.readers
-readers_fed p name files readers place one now e same =
+readers_fed p name readers place one now e same =
     (at_place p.limits.line readers place one now e.apart e.there.within e.one_is same).1
     ∙ ap (with_reader now) e.readers_are
-    ∙ ap (λ (r : Reader). with_reader now (with_reader r p.readers)) (the_one p name files readers place one e)
+    ∙ ap (λ (r : Reader). with_reader now (with_reader r p.readers)) (the_one p name readers place one e)
     ∙ with_twice now one p.readers same
 
-all_enrolled : (p : PlantState) (name : List ℕ) (files : Option Files) (readers : List Reader) (place : ℕ) (one : Reader) → IsEnrolled p name files readers place one → AllOwn files readers
-all_enrolled p name files readers place one e = subst (AllOwn files) (sym e.readers_are) (own_enrolled p.limits.line name files p.readers e.all_own)
+all_enrolled : (p : PlantState) (name : List ℕ) (files : Option Files) (readers : List Reader) (place : ℕ) (one : Reader) → IsEnrolled p name readers place one → AllOwn files p.readers → AllOwn files readers
+all_enrolled p name files readers place one e all = subst (AllOwn files) (sym e.readers_are) (own_enrolled p.limits.line name files p.readers all)
 
 -- its own files are there
-pub one_own : (p : PlantState) (name : List ℕ) (files : Option Files) (readers : List Reader) (place : ℕ) (one : Reader) → IsEnrolled p name files readers place one → AreOwn files one.own
-one_own p name files readers place one e =
-    each_at (λ r. AreOwn files r.own) readers place one (all_enrolled p name files readers place one e) e.there.within e.one_is
+pub one_own : (p : PlantState) (name : List ℕ) (files : Option Files) (readers : List Reader) (place : ℕ) (one : Reader) → IsEnrolled p name readers place one → AllOwn files p.readers → AreOwn files one.own
+one_own p name files readers place one e all =
+    each_at (λ r. AreOwn files r.own) readers place one (all_enrolled p name files readers place one e all) e.there.within e.one_is
 
 module _ (p : PlantState) (name piece : List ℕ) (told : Told) (files after : Option Files) (a b : ℕ) (before text : List ℕ) (readers : List Reader) (place : ℕ) (one now : Reader) where
   abbrev old : Moment
@@ -141,11 +140,11 @@ module _ (p : PlantState) (name piece : List ℕ) (told : Told) (files after : O
       by true is = inl (was_over v x is)
       by false is = inr (record { goes_on = is; fed = x.fed is })
 
-  pub fed_ok : (result : Result Unit StoreFault) → IsEnrolled p name files readers place one → WasFed piece p.told told files after a b before text one now result → OnOk result (HasFed name piece old new)
+  pub fed_ok : (result : Result Unit StoreFault) → IsEnrolled p name readers place one → WasFed piece p.told told files after a b before text one now result → OnOk result (HasFed name piece old new)
   fed_ok (Ok v) e x = record {
     now = now;
-    fed = subst (λ (r : Reader). WasOver r now old new ⊎ TookPiece piece r now old new) (sym (the_one p name files readers place one e)) (fed_as v x);
-    plant = ap (plant_fed p told) (readers_fed p name files readers place one now e x.named);
+    fed = subst (λ (r : Reader). WasOver r now old new ⊎ TookPiece piece r now old new) (sym (the_one p name readers place one e)) (fed_as v x);
+    plant = ap (plant_fed p told) (readers_fed p name readers place one now e x.named);
   }
   fed_ok (Err fault) e x = tt
 
@@ -153,14 +152,14 @@ module _ (p : PlantState) (name piece : List ℕ) (told : Told) (files after : O
   abbrev pub IsFront : StoreFault → Reader → Type 0
   IsFront fault r = (r.node.over ≡ false) × ((read : List ℕ) → r.node.lines ≡ state_after r.node.lines.max read → IsStoppedFeed read piece r.node (outside_of old r) (outside_of new now) fault)
 
-  pub fed_err : (result : Result Unit StoreFault) → IsEnrolled p name files readers place one → WasFed piece p.told told files after a b before text one now result → IfErr result (IsFedCutOff name piece old new)
+  pub fed_err : (result : Result Unit StoreFault) → IsEnrolled p name readers place one → WasFed piece p.told told files after a b before text one now result → IfErr result (IsFedCutOff name piece old new)
   fed_err (Ok v) e x = tt
   fed_err (Err fault) e x = by one.node.over refl
     where
       by : (over : Bool) → one.node.over ≡ over → IsFedCutOff name piece old new fault
       by true is = inl (record { mem = (x.over is).mem; text = ap (λ o. o.text) (x.over is).same })
       by false is =
-          let at = subst (IsFront fault) (sym (the_one p name files readers place one e)) (is, x.front is) in
+          let at = subst (IsFront fault) (sym (the_one p name readers place one e)) (is, x.front is) in
           inr (record { now = now; goes_on = at.0; fed = at.1 })
 
   -- the reader is still one of its name
@@ -188,7 +187,7 @@ module _ (p : PlantState) (name piece : List ℕ) (told : Told) (files after : O
   grown g = grown_by p.told told g.more g.entries_are g.rules.run_is
       (λ k is. subst (λ (o : Option Kind). IfSome o (λ (j : Kind). (world_told told).kind ≡ Some j)) is g.rules.kind_is)
 
-  pub fed_steady : (result : Result Unit StoreFault) → ServedStay → IsEnrolled p name files readers place one → WasFed piece p.told told files after a b before text one now result
+  pub fed_steady : (result : Result Unit StoreFault) → ServedStay → IsEnrolled p name readers place one → WasFed piece p.told told files after a b before text one now result
       → OnOk result (IsSteady (plant_fed p told (set readers place now)))
   fed_steady (Ok v) stay e x = record {
     run_is = x.grows.rules.run_is ∙ e.steady.run_is;
@@ -198,6 +197,54 @@ module _ (p : PlantState) (name piece : List ℕ) (told : Told) (files after : O
   }
   fed_steady (Err fault) stay e x = tt
 
-  pub fed_own : IsEnrolled p name files readers place one → TakesAway one.node.name (shelved files one.own) (shelved after now.own) → AreOwn after now.own → AllOwn after (set readers place now)
-  fed_own e away own =
-      own_set readers place one now files after e.apart e.each e.there.within e.one_is away.files own (all_enrolled p name files readers place one e)
+  pub fed_own : IsEnrolled p name readers place one → AllOwn files p.readers → TakesAway one.node.name (shelved files one.own) (shelved after now.own) → AreOwn after now.own → AllOwn after (set readers place now)
+  fed_own e all away own =
+      own_set readers place one now files after e.apart e.each e.there.within e.one_is away.files own (all_enrolled p name files readers place one e all)
+
+-- ---- the end of a run
+
+-- what was read of a run that ends is some text of the next
+ended_lines : (r : NodeState) (read : List ℕ) → r.lines ≡ state_after r.lines.max read → (over : Bool) → (text : List ℕ) × ((state_ended over r).lines ≡ state_after (state_ended over r).lines.max text)
+ended_lines r read is true = (read, is)
+ended_lines r read is false = ([], refl)
+
+ended_name : (r : NodeState) (over : Bool) → (state_ended over r).name ≡ r.name
+ended_name r true = refl
+ended_name r false = refl
+
+module _ (p : PlantState) (name : List ℕ) (readers : List Reader) (place : ℕ) (one : Reader) (node : NodeState) (enrolled : IsEnrolled p name readers place one) (ends : node ≡ ended one.node) where
+  abbrev now : Reader
+  now = record one { node = node }
+
+  named : node.name ≡ one.node.name
+  named = ap (λ (r : NodeState). r.name) ends ∙ ended_name one.node one.node.over
+
+  readers_ended : set readers place now ≡ with_reader (record one { node = ended one.node }) p.readers
+  readers_ended = readers_fed p name readers place one now enrolled named ∙ ap (λ (n : NodeState). with_reader (record one { node = n }) p.readers) ends
+
+  pub ended_told : (before text : List ℕ) → text ≡ before ++ end_lines one.node → (files : Option Files) (faults : ℕ)
+      → moment (record p { readers = set readers place now }) files faults text ≡ after_end (reader_of p.limits.line name p.readers) (moment p files faults before)
+  ended_told before text told files faults =
+      subst (λ (r : Reader). moment (record p { readers = set readers place now }) files faults text ≡ after_end r (moment p files faults before)) (sym (the_one p name readers place one enrolled))
+      (λ i. moment (record p { readers = readers_ended i }) files faults (told i))
+
+  pub ended_steady : IsSteady (record p { readers = set readers place now })
+  ended_steady =
+      let it : IsReader one = each_at IsReader readers place one enrolled.each enrolled.there.within enrolled.one_is in
+      let lines = ended_lines one.node it.read it.lines one.node.over in
+      let reader : IsReader (record one { node = ended one.node }) = record {
+        name = subst IsReaderName (sym (ended_name one.node one.node.over)) it.name;
+        own = subst (λ (n : List ℕ). AreBy n one.own) (sym (ended_name one.node one.node.over)) it.own;
+        read = lines.0;
+        lines = lines.1;
+      } in
+      record {
+        run_is = enrolled.steady.run_is;
+        served = enrolled.steady.served;
+        readers = each_set IsReader readers place now enrolled.each (subst (λ (n : NodeState). IsReader (record one { node = n })) (sym ends) reader);
+        apart = apart_set readers place one now enrolled.there.within enrolled.one_is named enrolled.apart;
+      }
+
+  pub ended_own : (files : Option Files) → AllOwn files p.readers → AllOwn files (set readers place now)
+  ended_own files all =
+      each_set (λ r. AreOwn files r.own) readers place now (all_enrolled p name files readers place one enrolled all) (one_own p name files readers place one enrolled all)

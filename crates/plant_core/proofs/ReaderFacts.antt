@@ -77,9 +77,10 @@ found_at max name readers place e within apart =
     let is : one ≡ get_or readers place one = get_same readers place (new_reader max name) one within in
     let named : one.node.name ≡ name = name_is name one (position-Some (is_named name) readers place (new_reader max name) e).1 in
     let at = at_place max readers place one one apart within is refl in
-    let found : reader_of max name readers ≡ one = subst (λ (n : List ℕ). reader_of max n readers ≡ one) named at.0 in
-    (subst (λ (r : Reader). StandsAt readers place r) (sym found) (record { within = within; is = is }),
-    subst (λ (r : Reader). readers ≡ with_reader r readers) (sym found) (sym (set_same readers place one is) ∙ at.1))
+    let found : reader_of max name readers ≡ one = subst (λ (n : List ℕ). reader_of max n readers ≡ one) named at.0 in (
+      subst (λ (r : Reader). StandsAt readers place r) (sym found) (record { within = within; is = is }),
+      subst (λ (r : Reader). readers ≡ with_reader r readers) (sym found) (sym (set_same readers place one is) ∙ at.1),
+    )
 
 -- ---- a name that stands nowhere
 
@@ -144,10 +145,11 @@ pub apart_set : (readers : List Reader) (place : ℕ) (one now : Reader) → pla
 apart_set [] place one now within is same apart = tt
 apart_set (r ∷ readers) zero one now within is same apart =
     (subst (λ (n : List ℕ). AllByRecursion (λ x. is_named n x ≡ false) readers) (sym (same ∙ ap (λ (x : Reader). x.node.name) is)) apart.0, apart.1)
-apart_set (r ∷ readers) (suc place) one now within is same apart =
-    (each_set (λ x. is_named r.node.name x ≡ false) readers place now apart.0
-    (subst (λ (n : List ℕ). bytes_eq n r.node.name ≡ false) (sym same) (each_at (λ x. is_named r.node.name x ≡ false) readers place one apart.0 (omega arith) is)),
-    apart_set readers place one now (omega arith) is same apart.1)
+apart_set (r ∷ readers) (suc place) one now within is same apart = (
+  each_set (λ x. is_named r.node.name x ≡ false) readers place now apart.0
+      (subst (λ (n : List ℕ). bytes_eq n r.node.name ≡ false) (sym same) (each_at (λ x. is_named r.node.name x ≡ false) readers place one apart.0 (omega arith) is)),
+  apart_set readers place one now (omega arith) is same apart.1,
+)
 
 -- the own files of the others are there as before, where only files of one reader changed
 pub own_set : (readers : List Reader) (place : ℕ) (one now : Reader) (files after : Option Files) → AreApart readers → AllByRecursion IsReader readers → place < length readers → one ≡ get_or readers place one
@@ -160,10 +162,11 @@ own_set readers place one now files after apart each within is kept own all = go
     -- the other readers
     rest : (xs : List Reader) → AllByRecursion (λ x. is_named one.node.name x ≡ false) xs → AllByRecursion IsReader xs → AllOwn files xs → AllOwn after xs
     rest [] others readers_are there = tt
-    rest (x ∷ xs) others readers_are there =
-        (others_stay one.node.name x.node.name one.own x.own files after it.name readers_are.0.name (λ e. let same : is_named one.node.name x ≡ true = (bytes_eq-Decides x.node.name one.node.name).1 (sym e) in absurd (cc))
-        it.own readers_are.0.own kept there.0,
-        rest xs others.1 readers_are.1 there.1)
+    rest (x ∷ xs) others readers_are there = (
+      others_stay one.node.name x.node.name one.own x.own files after it.name readers_are.0.name (λ e. let same : is_named one.node.name x ≡ true = (bytes_eq-Decides x.node.name one.node.name).1 (sym e) in absurd (cc))
+          it.own readers_are.0.own kept there.0,
+      rest xs others.1 readers_are.1 there.1,
+    )
 
     go : (xs : List Reader) (k : ℕ) → AreApart xs → AllByRecursion IsReader xs → k < length xs → one ≡ get_or xs k one → AllOwn files xs → AllOwn after (set xs k now)
     go [] k a e w i t = tt

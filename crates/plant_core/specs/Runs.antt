@@ -6,7 +6,6 @@ use Rattle.one_block.specs.declared.faults.StoreFault.TheVariants as store
 use Rattle.relay_model.specs.Chronicles.{Opened}
 use Rattle.relay_model.specs.Worlds.{World, usual_size}
 use Rattle.block_relay.specs.Chronicle.{Told, limits_told, world_told}
-
 use Rattle.replay_text.specs.Lines.{load_fault_line, loaded_line}
 use Rattle.script_text.specs.declared.script.Event.{Event}
 use Rattle.script_text.specs.Scripts.{Plan}

@@ -45,7 +45,7 @@ impl Model for Plant {
       run = p.run;
       limits = p.limits;
       readers = p.readers.items;
-      clients = p.clients
+      clients = p.clients;
     } };
 }
 
@@ -94,8 +94,20 @@ impl Plant {
         ensures later { S.shelf_faults shelf.old ≤ S.shelf_faults shelf.new }
     {
         match event {
-            Event::Bytes { reader, bytes } => self.feed(alloc, reader, bytes.as_bytes(), shelf, out),
-            Event::Line { reader, text } => self.feed_line(alloc, reader, text.as_bytes(), shelf, out),
+            Event::Bytes { reader, bytes } => self.feed(
+                alloc,
+                reader,
+                bytes.as_bytes(),
+                shelf,
+                out,
+            ),
+            Event::Line { reader, text } => self.feed_line(
+                alloc,
+                reader,
+                text.as_bytes(),
+                shelf,
+                out,
+            ),
             Event::Death { reader } => self.end_run(alloc, reader, out),
             Event::Open { client, request } => {
                 self.open(alloc, client.as_bytes(), request.as_bytes(), out)
@@ -168,7 +180,9 @@ impl Plant {
         served_stay();
         let place = enrol(alloc, self.limits.line as usize, reader, &mut self.readers)?;
         let reader = &mut self.readers[place];
-        reader.node.feed(alloc, &mut self.relay, shelf, &mut reader.own, piece, out)
+        reader
+            .node
+            .feed(alloc, &mut self.relay, shelf, &mut reader.own, piece, out)
     }
 
     /// The run of a reader's node ends, and a new one begins.
@@ -185,6 +199,8 @@ impl Plant {
             (moment self.old files faults out.old.items)) }
         ensures err { OnErr result (out.new.items ≡ out.old.items) }
         ensures steady { IsSteady self.new }
+        ensures own { (files : Option Files) → AllOwn files self.old.readers
+            → AllOwn files self.new.readers }
         ensures mem { IfErr result (λ fault. fault ≡ StoreFault.Mem) }
     {
         let place = enrol(alloc, self.limits.line as usize, reader, &mut self.readers)?;
