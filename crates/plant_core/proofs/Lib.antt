@@ -1,2 +1,5 @@
-mod ReaderFacts
+mod EventFacts
 mod FeedFacts
+mod PlantFacts
+mod ReaderFacts
+mod RunFacts

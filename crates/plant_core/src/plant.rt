@@ -221,7 +221,7 @@ impl Plant {
             self.old.clients self.new.clients out.old.items out.new.items) }
         ensures plant { self.new ≡ record self.old { clients = self.new.clients } }
         ensures err { OnErr result (out.new.items ≡ out.old.items) }
-        ensures steady { IsSteady self.new }
+        ensures steady { OnOk result (IsSteady self.new) }
         ensures mem { IfErr result (λ fault. fault ≡ StoreFault.Mem) }
     {
         self.clients
@@ -246,7 +246,7 @@ impl Plant {
         ensures err { IfErr result (HasLookedFront most client.now
             (moment self.old (S.files shelf.old) (S.shelf_faults shelf.old) out.old.items)
             (moment self.new (S.files shelf.new) (S.shelf_faults shelf.new) out.new.items)) }
-        ensures steady { IsSteady self.new }
+        ensures steady { OnOk result (IsSteady self.new) }
         ensures own { OnOk result (AllOwn (S.files shelf.new) self.new.readers) }
         ensures later { S.shelf_faults shelf.old ≤ S.shelf_faults shelf.new }
     {
@@ -269,10 +269,11 @@ impl Plant {
         ensures err { IfErr result (HasMergedFront
             (moment self.old (S.files shelf.old) (S.shelf_faults shelf.old) out.old.items)
             (moment self.new (S.files shelf.new) (S.shelf_faults shelf.new) out.new.items)) }
-        ensures steady { IsSteady self.new }
+        ensures steady { OnOk result (IsSteady self.new) }
         ensures own { OnOk result (AllOwn (S.files shelf.new) self.new.readers) }
         ensures later { S.shelf_faults shelf.old ≤ S.shelf_faults shelf.new }
     {
+        served_stay();
         merges_stay();
         let merged = merge_owned(alloc, &mut self.relay, shelf)?;
         push_merged(merged, out)?;
@@ -285,6 +286,7 @@ impl Plant {
         ensures steady { IsSteady self.new }
         ensures closed { self.new ≡ record self.old { told = told_closed self.old.told } }
     {
+        served_stay();
         self.relay.close();
     }
 }
