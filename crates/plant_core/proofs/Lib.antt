@@ -2,4 +2,5 @@ mod EventFacts
 mod FeedFacts
 mod PlantFacts
 mod ReaderFacts
+mod ReplayFacts
 mod RunFacts

@@ -1,15 +1,12 @@
 -- A plant whose relay or clients have changed is steady still.
-use Rattle.std.proofs.Common.{◌≡◌, ◌∙◌, ℕ, List, [], ◌∷◌, ◌++◌, Option, refl, sym, ap, map, subst}
-use Rattle.std.specs.List.{AllByRecursion}
+use Rattle.std.proofs.Common.{◌∙◌, List, [], ◌∷◌, Option}
 use Rattle.outer_world.specs.Files.{Files}
-use Rattle.block_reader.specs.Kept.{AreOwn}
 use Rattle.block_relay.specs.Chronicle.{Told, world_told}
-use Rattle.bundle_merger.specs.Merging.{AddsStored, IsMerged}
+use Rattle.bundle_merger.specs.Merging.{IsMerged}
 use Rattle.bundle_merger.specs.declared.merging.Merged.{Merged}
 use Rattle.own_laws.specs.Laws.{MergesStay}
 use Rattle.relay_model.specs.Worlds.{World}
 use Rattle.relay_session.specs.Growing.{HasGrown}
-use Rattle.relay_session.proofs.public.Growing.{grown_closed, grown_stored}
 use Rattle.script_clients.specs.Laws.{ServedStay}
 use Rattle.script_clients.specs.Serving.{AllServed}
 use Rattle.script_clients.specs.declared.named.Named.{Named}

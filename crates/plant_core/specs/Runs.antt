@@ -1,5 +1,5 @@
 -- A script, run over a shelf.
-use Rattle.std.specs.Prelude.{ℕ, ◌≡◌, ◌⊎◌, List, [], ◌∷◌, ◌++◌, Option, Result, Ok, Err}
+use Rattle.std.specs.Prelude.{ℕ, ◌≡◌, ◌⊎◌, List, [], ◌∷◌, ◌++◌, Option, Ok, Err}
 use Rattle.outer_world.specs.Files.{Files}
 use Rattle.one_block.specs.declared.faults.StoreFault.{StoreFault}
 use Rattle.one_block.specs.declared.faults.StoreFault.TheVariants as store
@@ -75,6 +75,24 @@ pub record WasNotRun (p : Plan) (files now : Option Files) (before faults : ℕ)
   pub relay_is : relay ≡ told_new p
   pub files_are : now ≡ files
   pub told : after ≡ text ++ load_fault_line refused
+
+-- no event happened, for want of memory
+pub record DidNotBegin (files now : Option Files) (text after : List ℕ) (fault : StoreFault) : Type 0 where
+  pub mem : fault ≡ store.Mem
+  pub files_are : now ≡ files
+  pub same : after ≡ text
+
+-- a refusal of what a shelf holds was told, and a new relay was made
+pub record IsTold (p : Plan) (refused : LoadFault) (text after : List ℕ) (relay : Told) : Type 0 where
+  pub own : IsOwn refused
+  pub relay_is : relay ≡ told_new p
+  pub told : after ≡ text ++ load_fault_line refused
+
+-- it was not: there was no memory for that, or the shelf itself was refused
+pub record IsGivenUp (refused : LoadFault) (text after : List ℕ) (fault : StoreFault) : Type 0 where
+  pub why : (fault ≡ store.Mem) ⊎ (refused ≡ load.Store fault)
+  pub line : List ℕ
+  pub told : after ≡ text ++ line
 
 -- a script was replayed, and gave this relay
 abbrev pub IsReplayed : Plan → Option Files → Option Files → ℕ → ℕ → List ℕ → List ℕ → Told → Type 0

@@ -1,10 +1,11 @@
 //! A script, run over a shelf.
 
-ghost use Rattle.std.specs.Prelude.{◌≡◌, ◌≤◌, ◌⊎◌, IfErr, IfOk};
+ghost use Rattle.std.specs.Prelude.{◌≡◌, ◌≤◌, ◌⊎◌, ◌++◌, IfErr, IfOk};
 ghost use Rattle.block_relay.specs.Chronicle.{world_told};
+ghost use Rattle.replay_text.specs.Lines.{loaded_line};
 ghost use Rattle.script_text.specs.Scripts.{script_seen};
-ghost use Rattle.plant_core.specs.Moments.{AllOwn, IsSteady, moment};
-ghost use Rattle.plant_core.specs.Runs.{IsReplayed, IsStopped, RunsTo, StopsWithin, told_new};
+ghost use Rattle.plant_core.specs.Moments.{AllOwn, IsSteady, moment, plant_of};
+ghost use Rattle.plant_core.specs.Runs.{DidNotBegin, IsGivenUp, IsReplayed, IsStopped, IsTold, RunsTo, StopsWithin, told_new};
 
 use crate::plant::Plant;
 use block_relay::Relay;
@@ -13,7 +14,7 @@ use outer_world::Shelf;
 use replay_text::{push_load_fault, push_loaded};
 use script_text::{Event, Script};
 use shelf_check::LoadFault;
-use shelf_load::load;
+use shelf_load::{Loaded, load};
 use std::alloc::{AllocError, Global};
 
 /// Loads the shelf into a relay, and then has each event of the script happen to it, in order: the relay
@@ -35,14 +36,52 @@ pub fn replay<S: Shelf>(
 {
     let mut relay = new_relay(alloc, script)?;
     match load(alloc, &mut relay, shelf) {
-        Ok(loaded) => {
-            push_loaded(loaded, out)?;
-            let plant = Plant::new(alloc, relay, script.run, script.limits);
-            run_events(alloc, script.events.as_slice(), plant, shelf, out)
-        }
-        Err(LoadFault::Store(fault)) => Err(fault),
-        Err(fault) => {
-            push_load_fault(&fault, out)?;
+        Ok(loaded) => run_loaded(alloc, script, loaded, relay, shelf, out),
+        Err(refused) => tell_unloaded(alloc, script, refused, out),
+    }
+}
+
+/// Tells what a shelf gave a new relay, and then has each event of the script happen.
+fn run_loaded<S: Shelf>(
+    alloc: Global,
+    script: &Script,
+    loaded: Loaded,
+    relay: Relay,
+    shelf: &mut S,
+    out: &mut Vec<u8>,
+) -> Result<Relay, StoreFault>
+    requires { (world_told relay).run ≡ script.now.run }
+    ensures ok { IfOk result (RunsTo script.now.events.items
+        (moment (plant_of relay script.now.run script.now.limits) (S.files shelf.old)
+        (S.shelf_faults shelf.old) (out.old.items ++ loaded_line loaded))
+        (S.files shelf.new) (S.shelf_faults shelf.new) out.new.items) }
+    ensures err { IfErr result (λ fault. DidNotBegin (S.files shelf.old) (S.files shelf.new)
+        out.old.items out.new.items fault ⊎ StopsWithin script.now.events.items
+        (moment (plant_of relay script.now.run script.now.limits) (S.files shelf.old)
+        (S.shelf_faults shelf.old) (out.old.items ++ loaded_line loaded))
+        (S.files shelf.new) (S.shelf_faults shelf.new) out.new.items fault) }
+    ensures later { S.shelf_faults shelf.old ≤ S.shelf_faults shelf.new }
+{
+    push_loaded(loaded, out)?;
+    let plant = Plant::new(alloc, relay, script.run, script.limits);
+    run_events(alloc, script.events.as_slice(), plant, shelf, out)
+}
+
+/// Tells why a shelf was not loaded, unless the shelf itself was refused: a new relay.
+fn tell_unloaded(
+    alloc: Global,
+    script: &Script,
+    refused: LoadFault,
+    out: &mut Vec<u8>,
+) -> Result<Relay, StoreFault>
+    ensures ok { IfOk result (IsTold (script_seen script.now) refused
+        out.old.items out.new.items) }
+    ensures err { IfErr result (IsGivenUp refused out.old.items out.new.items) }
+{
+    match refused {
+        LoadFault::Store(fault) => Err(fault),
+        refused => {
+            push_load_fault(&refused, out)?;
             let relay = new_relay(alloc, script)?;
             Ok(relay)
         }

@@ -1,4 +1,4 @@
-use Rattle.std.proofs.Common.{List, sym, subst}
+use Rattle.std.proofs.Common.{sym, subst}
 use Rattle.block_relay.specs.Chronicle.{world_told}
 use Rattle.relay_session.proofs.public.Growing.{grown_stored}
 use Rattle.plant_core.specs.Moments.{AllOwn, IsSteady, PlantState}

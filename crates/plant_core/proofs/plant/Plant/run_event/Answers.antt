@@ -1,8 +1,7 @@
-use Rattle.std.proofs.Common.{◌≡◌, ℕ, OnOk, Option, sym, subst}
-use Rattle.outer_world.specs.Files.{Files}
+use Rattle.std.proofs.Common.{◌≡◌, OnOk, sym, subst}
 use Rattle.script_text.specs.declared.script.Event.{Event}
-use Rattle.plant_core.specs.Events.{Happens, after_end, reader_in}
-use Rattle.plant_core.specs.Moments.{AllOwn, IsSteady, PlantState, moment, reader_of}
+use Rattle.plant_core.specs.Events.{Happens, after_end}
+use Rattle.plant_core.specs.Moments.{IsSteady, moment, reader_of}
 use Rattle.plant_core.proofs.EventFacts.{at_these, if_ok}
 use Rattle.plant_core.proofs.PlantFacts.{steady_clients}
 use Rattle.plant_core.proofs.plant.Plant.run_event.Goals as goal
